@@ -195,116 +195,6 @@ static inline uint32_t cc_edit(cc *page, uint32_t op, const int32_t *fields, siz
   return cc_edit_(page, op, fields, count, rgba, none, 0, fault ? fault : &f, &page);
 }
 
-/* A transform: its parent's translation plus (x, y), minus the offset of `scroller` where that is not 0. */
-static inline uint32_t cc_add_transform(cc *page, int32_t id, int32_t parent, int32_t x, int32_t y,
-                                        int32_t scroller, cc_fault *fault) {
-  const int32_t f[] = {id, parent, x, y, scroller};
-  return cc_edit(page, 1, f, 5, 0, fault);
-}
-
-static inline uint32_t cc_set_transform(cc *page, int32_t id, int32_t x, int32_t y, cc_fault *fault) {
-  const int32_t f[] = {id, x, y};
-  return cc_edit(page, 2, f, 3, 0, fault);
-}
-
-/* A clip: a rect in the space of a transform, cut by the clips above it. */
-static inline uint32_t cc_add_clip(cc *page, int32_t id, int32_t parent, int32_t transform, int32_t x, int32_t y,
-                                   int32_t w, int32_t h, cc_fault *fault) {
-  const int32_t f[] = {id, parent, transform, x, y, w, h};
-  return cc_edit(page, 3, f, 7, 0, fault);
-}
-
-static inline uint32_t cc_set_clip(cc *page, int32_t id, int32_t x, int32_t y, int32_t w, int32_t h,
-                                   cc_fault *fault) {
-  const int32_t f[] = {id, x, y, w, h};
-  return cc_edit(page, 4, f, 5, 0, fault);
-}
-
-/* An effect: its layers are drawn as a group, faded to `opacity` of 255. */
-static inline uint32_t cc_add_effect(cc *page, int32_t id, int32_t parent, int32_t opacity, cc_fault *fault) {
-  const int32_t f[] = {id, parent, opacity};
-  return cc_edit(page, 5, f, 3, 0, fault);
-}
-
-static inline uint32_t cc_set_opacity(cc *page, int32_t id, int32_t opacity, cc_fault *fault) {
-  const int32_t f[] = {id, opacity};
-  return cc_edit(page, 6, f, 2, 0, fault);
-}
-
-/* A scroller, at (0, 0), which scrolls to (max_x, max_y) and hands on to its parent what it cannot take. */
-static inline uint32_t cc_add_scroller(cc *page, int32_t id, int32_t parent, int32_t max_x, int32_t max_y,
-                                       cc_fault *fault) {
-  const int32_t f[] = {id, parent, max_x, max_y};
-  return cc_edit(page, 7, f, 4, 0, fault);
-}
-
-static inline uint32_t cc_set_range(cc *page, int32_t id, int32_t max_x, int32_t max_y, cc_fault *fault) {
-  const int32_t f[] = {id, max_x, max_y};
-  return cc_edit(page, 8, f, 3, 0, fault);
-}
-
-/* Moves a scroller of the main page; cc_scroll moves both pages at once. */
-static inline uint32_t cc_scroll_by(cc *page, int32_t id, int32_t dx, int32_t dy, cc_fault *fault) {
-  const int32_t f[] = {id, dx, dy};
-  return cc_edit(page, 9, f, 3, 0, fault);
-}
-
-static inline uint32_t cc_scroll_to(cc *page, int32_t id, int32_t x, int32_t y, cc_fault *fault) {
-  const int32_t f[] = {id, x, y};
-  return cc_edit(page, 10, f, 3, 0, fault);
-}
-
-/* A layer of w by h pixels with an empty display list, at this place of the painting order. */
-static inline uint32_t cc_add_layer(cc *page, int32_t id, int32_t at, int32_t transform, int32_t clip,
-                                    int32_t effect, int32_t w, int32_t h, uint32_t rgba, cc_fault *fault) {
-  const int32_t f[] = {id, at, transform, clip, effect, w, h};
-  return cc_edit(page, 11, f, 7, rgba, fault);
-}
-
-static inline uint32_t cc_remove_layer(cc *page, int32_t id, cc_fault *fault) {
-  const int32_t f[] = {id};
-  return cc_edit(page, 12, f, 1, 0, fault);
-}
-
-static inline uint32_t cc_resize_layer(cc *page, int32_t id, int32_t w, int32_t h, cc_fault *fault) {
-  const int32_t f[] = {id, w, h};
-  return cc_edit(page, 13, f, 3, 0, fault);
-}
-
-/* The colour of a layer shows only where a tile is missing, which no draw of this library has. */
-static inline uint32_t cc_set_colour(cc *page, int32_t id, uint32_t rgba, cc_fault *fault) {
-  const int32_t f[] = {id};
-  return cc_edit(page, 14, f, 1, rgba, fault);
-}
-
-static inline uint32_t cc_move_layer(cc *page, int32_t id, int32_t at, cc_fault *fault) {
-  const int32_t f[] = {id, at};
-  return cc_edit(page, 15, f, 2, 0, fault);
-}
-
-static inline uint32_t cc_set_view(cc *page, int32_t w, int32_t h, int32_t tile, cc_fault *fault) {
-  const int32_t f[] = {w, h, tile};
-  return cc_edit(page, 16, f, 3, 0, fault);
-}
-
-static inline uint32_t cc_remove_item(cc *page, int32_t layer, int32_t at, cc_fault *fault) {
-  const int32_t f[] = {layer, at};
-  return cc_edit(page, 17, f, 2, 0, fault);
-}
-
-/* A rect of one colour, at this place of the layer's display list. */
-static inline uint32_t cc_insert_rect(cc *page, int32_t layer, int32_t at, int32_t x, int32_t y, int32_t w,
-                                      int32_t h, uint32_t rgba, cc_fault *fault) {
-  const int32_t f[] = {layer, at, x, y, w, h};
-  return cc_edit(page, 18, f, 6, rgba, fault);
-}
-
-static inline uint32_t cc_replace_rect(cc *page, int32_t layer, int32_t at, int32_t x, int32_t y, int32_t w,
-                                       int32_t h, uint32_t rgba, cc_fault *fault) {
-  const int32_t f[] = {layer, at, x, y, w, h};
-  return cc_edit(page, 19, f, 6, rgba, fault);
-}
-
 static inline uint32_t cc_bitmap_(cc *page, uint32_t op, const int32_t *f, const uint8_t *rgba, cc_fault *fault) {
   cc_fault told;
   const size_t bytes =
@@ -312,19 +202,148 @@ static inline uint32_t cc_bitmap_(cc *page, uint32_t op, const int32_t *f, const
   return cc_edit_(page, op, f, 6, 0, rgba, bytes, fault ? fault : &told, &page);
 }
 
-/* A bitmap of w by h pixels (1 to 256 each), which are copied: red, green, blue and alpha of each, row by row, and
- * premultiplied. CC_BAD where a side or a pixel is none of these. */
+/* What follows is made by tools/command_fields.py. */
+/* Adds a transform: the translation of its parent, plus `(x, y)`, minus the offset of the scroller, if it names
+ * one. */
+static inline uint32_t cc_add_transform(cc *page, int32_t id, int32_t parent, int32_t x, int32_t y, int32_t scroller,
+                                        cc_fault *fault) {
+  const int32_t f[] = {id, parent, x, y, scroller};
+  return cc_edit(page, 1, f, 5, 0, fault);
+}
+
+/* Gives a transform another `(x, y)`. */
+static inline uint32_t cc_set_transform(cc *page, int32_t id, int32_t x, int32_t y, cc_fault *fault) {
+  const int32_t f[] = {id, x, y};
+  return cc_edit(page, 2, f, 3, 0, fault);
+}
+
+/* Adds a clip: a rect that stands in the space of a transform, cut by the clips above it. */
+static inline uint32_t cc_add_clip(cc *page, int32_t id, int32_t parent, int32_t transform, int32_t x, int32_t y,
+                                   int32_t w, int32_t h, cc_fault *fault) {
+  const int32_t f[] = {id, parent, transform, x, y, w, h};
+  return cc_edit(page, 3, f, 7, 0, fault);
+}
+
+/* Gives a clip another rect. */
+static inline uint32_t cc_set_clip(cc *page, int32_t id, int32_t x, int32_t y, int32_t w, int32_t h,
+                                   cc_fault *fault) {
+  const int32_t f[] = {id, x, y, w, h};
+  return cc_edit(page, 4, f, 5, 0, fault);
+}
+
+/* Adds an effect. Its layers are drawn as a group, faded to `opacity` of 255. */
+static inline uint32_t cc_add_effect(cc *page, int32_t id, int32_t parent, int32_t opacity, cc_fault *fault) {
+  const int32_t f[] = {id, parent, opacity};
+  return cc_edit(page, 5, f, 3, 0, fault);
+}
+
+/* Gives an effect another opacity. */
+static inline uint32_t cc_set_opacity(cc *page, int32_t id, int32_t opacity, cc_fault *fault) {
+  const int32_t f[] = {id, opacity};
+  return cc_edit(page, 6, f, 2, 0, fault);
+}
+
+/* Adds a scroller, whose main value is (0, 0). It scrolls to (max_x, max_y), and hands on to its parent what it
+ * cannot take. */
+static inline uint32_t cc_add_scroller(cc *page, int32_t id, int32_t parent, int32_t max_x, int32_t max_y,
+                                       cc_fault *fault) {
+  const int32_t f[] = {id, parent, max_x, max_y};
+  return cc_edit(page, 7, f, 4, 0, fault);
+}
+
+/* Gives a scroller another range, and clamps its main value to it. */
+static inline uint32_t cc_set_range(cc *page, int32_t id, int32_t max_x, int32_t max_y, cc_fault *fault) {
+  const int32_t f[] = {id, max_x, max_y};
+  return cc_edit(page, 8, f, 3, 0, fault);
+}
+
+/* Adds to a scroller's main value, and clamps it to the range. It is a scroller of the main page; cc_scroll moves
+ * both pages at once. */
+static inline uint32_t cc_scroll_by(cc *page, int32_t id, int32_t dx, int32_t dy, cc_fault *fault) {
+  const int32_t f[] = {id, dx, dy};
+  return cc_edit(page, 9, f, 3, 0, fault);
+}
+
+/* Sets a scroller's main value, clamped to the range. */
+static inline uint32_t cc_scroll_to(cc *page, int32_t id, int32_t x, int32_t y, cc_fault *fault) {
+  const int32_t f[] = {id, x, y};
+  return cc_edit(page, 10, f, 3, 0, fault);
+}
+
+/* Adds a layer with an empty display list, so that it has this place. */
+static inline uint32_t cc_add_layer(cc *page, int32_t id, int32_t at, int32_t transform, int32_t clip, int32_t effect,
+                                    int32_t w, int32_t h, uint32_t rgba, cc_fault *fault) {
+  const int32_t f[] = {id, at, transform, clip, effect, w, h};
+  return cc_edit(page, 11, f, 7, rgba, fault);
+}
+
+/* Takes a layer out for good: no later layer has its id. */
+static inline uint32_t cc_remove_layer(cc *page, int32_t id, cc_fault *fault) {
+  const int32_t f[] = {id};
+  return cc_edit(page, 12, f, 1, 0, fault);
+}
+
+/* Gives a layer another size; its display list stays. */
+static inline uint32_t cc_resize_layer(cc *page, int32_t id, int32_t w, int32_t h, cc_fault *fault) {
+  const int32_t f[] = {id, w, h};
+  return cc_edit(page, 13, f, 3, 0, fault);
+}
+
+/* Gives a layer another background colour. It shows only where a tile is missing, which no draw of this library
+ * has. */
+static inline uint32_t cc_set_colour(cc *page, int32_t id, uint32_t rgba, cc_fault *fault) {
+  const int32_t f[] = {id};
+  return cc_edit(page, 14, f, 1, rgba, fault);
+}
+
+/* Takes a layer out of the list and inserts it at this place of the others. */
+static inline uint32_t cc_move_layer(cc *page, int32_t id, int32_t at, cc_fault *fault) {
+  const int32_t f[] = {id, at};
+  return cc_edit(page, 15, f, 2, 0, fault);
+}
+
+/* Sets the viewport and the tile size. */
+static inline uint32_t cc_set_view(cc *page, int32_t w, int32_t h, int32_t tile, cc_fault *fault) {
+  const int32_t f[] = {w, h, tile};
+  return cc_edit(page, 16, f, 3, 0, fault);
+}
+
+/* Removes an item of a layer's display list. */
+static inline uint32_t cc_remove_item(cc *page, int32_t layer, int32_t at, cc_fault *fault) {
+  const int32_t f[] = {layer, at};
+  return cc_edit(page, 17, f, 2, 0, fault);
+}
+
+/* Inserts an item into a layer's display list, so that it has this place. */
+static inline uint32_t cc_insert_rect(cc *page, int32_t layer, int32_t at, int32_t x, int32_t y, int32_t w, int32_t h,
+                                      uint32_t rgba, cc_fault *fault) {
+  const int32_t f[] = {layer, at, x, y, w, h};
+  return cc_edit(page, 18, f, 6, rgba, fault);
+}
+
+/* Puts another item in the place of one of a layer's display list. */
+static inline uint32_t cc_replace_rect(cc *page, int32_t layer, int32_t at, int32_t x, int32_t y, int32_t w,
+                                       int32_t h, uint32_t rgba, cc_fault *fault) {
+  const int32_t f[] = {layer, at, x, y, w, h};
+  return cc_edit(page, 19, f, 6, rgba, fault);
+}
+
+/* Inserts an item into a layer's display list, so that it has this place. A bitmap of w by h pixels (1 to 256
+ * each), which are copied: red, green, blue and alpha of each, row by row, and premultiplied. CC_BAD if a side or
+ * a pixel is none of these. */
 static inline uint32_t cc_insert_bitmap(cc *page, int32_t layer, int32_t at, int32_t x, int32_t y, int32_t w,
                                         int32_t h, const uint8_t *rgba, cc_fault *fault) {
   const int32_t f[] = {layer, at, x, y, w, h};
   return cc_bitmap_(page, 20, f, rgba, fault);
 }
 
+/* Puts another item in the place of one of a layer's display list. */
 static inline uint32_t cc_replace_bitmap(cc *page, int32_t layer, int32_t at, int32_t x, int32_t y, int32_t w,
                                          int32_t h, const uint8_t *rgba, cc_fault *fault) {
   const int32_t f[] = {layer, at, x, y, w, h};
   return cc_bitmap_(page, 21, f, rgba, fault);
 }
+/* The end of what is made. */
 
 #ifdef __cplusplus
 }

@@ -3,7 +3,7 @@
 
 usage: tools/check_examples.py
 
-The schema must have the commands that command_fields.py makes, be one of its draft and have the fields that
+What command_fields.py makes must be as it makes it; the schema must be one of its draft and have the fields that
 script_shape.py has, and each example must be valid by it. Of each of the changed scripts below it must say one fault,
 at the place of the change. It needs the Python package jsonschema (Debian's python3-jsonschema); if that is not to be
 had, it says so and checks the commands alone.
@@ -84,7 +84,7 @@ def other_fields(schema):
 
 
 def main():
-    if not command_fields.is_schema_made():
+    if not command_fields.is_all_made():
         return 1
     try:
         import jsonschema

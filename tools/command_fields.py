@@ -1,10 +1,12 @@
 #!/usr/bin/env python3
-"""The fields of each command, in their order, as crates/page_layers/src/command.rt lists them.
+"""The fields of each command, in their order, and its number for C, as crates/page_layers/src/command.rt lists them.
 
-    command_fields.py           fails if the commands of docs/script.schema.json are not made from that list
-    command_fields.py --write   makes them
+    command_fields.py           fails if what is made from that list is not as it would be made
+    command_fields.py --write   makes it
 
-A command is a struct; its comment and those of its fields are the schema's descriptions.
+A command is a struct; its comment and those of its fields are the descriptions. Made are the commands of
+docs/script.schema.json, and what stands between two lines that say so in docs/FORMAT.md (the table of fields) and in
+include/cc.h, clients/python/cc.py and clients/rust/src/lib.rs (a function for each command): client_commands.py.
 """
 import dataclasses
 import json
@@ -34,6 +36,7 @@ class Command:
     name: str
     text: str
     fields: tuple
+    number: int
 
 
 def words_of(comment):
@@ -50,10 +53,11 @@ def read_commands(source=SOURCE):
     text = source.read_text()
     variants = re.findall(r"((?:    ///.*\n)+)    (\w+)\(\2\),\n", text)
     structs = dict(re.findall(r"pub struct (\w+) \{\n((?:    .*\n)+)\}\n", text))
+    numbers = {name: int(number) for number, name in re.findall(r" (\d+) => Some\(Op::(\w+)\)", text)}
     commands = []
     for comment, name in variants:
         fields = re.findall(r"((?:    ///.*\n)+)    pub (\w+): (\w+),\n", structs[name])
-        commands.append(Command(snake(name), words_of(comment), tuple(Field(it, FORMS[kind], words_of(what)) for what, it, kind in fields)))
+        commands.append(Command(snake(name), words_of(comment), tuple(Field(it, FORMS[kind], words_of(what)) for what, it, kind in fields), numbers[name]))
     return commands
 
 
@@ -92,21 +96,29 @@ def made(schema, commands):
     return schema | {"$defs": definitions}
 
 
-def is_schema_made():
-    """Whether the schema's commands are made from the list; else says how to make them."""
-    text = SCHEMA.read_text()
-    if text == json.dumps(made(json.loads(text), read_commands()), indent=2) + "\n":
-        return True
-    print("command_fields: docs/script.schema.json has other commands than crates/page_layers/src/command.rt; "
-          "tools/command_fields.py --write makes them", file=sys.stderr)
-    return False
+def texts_made():
+    """Each file that has a part made from the list, and its text with that part made."""
+    import client_commands
+    commands = read_commands()
+    schema = json.dumps(made(json.loads(SCHEMA.read_text()), commands), indent=2) + "\n"
+    return [(SCHEMA, schema)] + client_commands.texts_made(commands)
+
+
+def is_all_made():
+    """Whether all parts are made from the list; else says how to make them."""
+    wrong = [path for path, text in texts_made() if path.read_text() != text]
+    for path in wrong:
+        print(f"command_fields: {path.relative_to(ROOT)} has other commands than crates/page_layers/src/command.rt; "
+              "tools/command_fields.py --write makes them", file=sys.stderr)
+    return not wrong
 
 
 def main():
     if "--write" in sys.argv[1:]:
-        SCHEMA.write_text(json.dumps(made(json.loads(SCHEMA.read_text()), read_commands()), indent=2) + "\n")
+        for path, text in texts_made():
+            path.write_text(text)
         return 0
-    return 0 if is_schema_made() else 1
+    return 0 if is_all_made() else 1
 
 
 if __name__ == "__main__":

@@ -7,15 +7,19 @@
     page.draw()
     page.pixels()            # bytes: red, green, blue and alpha of each pixel
 
-The library is looked for at the path CC_LIBRARY names, or as libcc.so. docs/EMBEDDING.md says what the calls do; a call
-that the library refuses raises `Refused`, one that runs out of memory MemoryError, a number that no page could take
-ValueError. A compositor is used on the thread that made it.
+The library is that of the path CC_LIBRARY, or else the one that came with this module, or else the system's. A call that
+the library refuses raises `Refused`, one that runs out of memory MemoryError, a number that no page could take
+ValueError. A compositor is used by one thread, the one that made it, until it is closed: another thread, and any call
+afterwards, gets a RuntimeError. docs/EMBEDDING.md says what the calls do.
 """
 import ctypes
 import operator
 import os
+import pathlib
+import threading
 
 VERSION = 1
+SONAME = f"libcc.so.{VERSION}"
 DONE, BAD, UNKNOWN, REFUSED, SHORT, MEMORY = 0, 1, 2, 3, 4, 11
 RGBA, BGRA = 0, 1
 FAULTS = {1: "a layer or node is not there", 2: "the id is taken", 3: "a place past the end of the list",
@@ -50,9 +54,15 @@ class Refused(Exception):
         self.why, self.value, self.limit = fault.why, fault.value, fault.limit
 
 
+def library_path():
+    """Where the library is looked for: CC_LIBRARY, beside this module as a wheel has it, among those of the system."""
+    beside = pathlib.Path(__file__).resolve().parent / "cc_compositor.libs" / SONAME
+    return os.environ.get("CC_LIBRARY") or (str(beside) if beside.is_file() else SONAME)
+
+
 def load(path=None):
     """The library, with the types of its functions."""
-    library = ctypes.CDLL(path or os.environ.get("CC_LIBRARY", "libcc.so"))
+    library = ctypes.CDLL(path or library_path())
     pointer, u32, i32, size, octets = ctypes.c_void_p, ctypes.c_uint32, ctypes.c_int32, ctypes.c_size_t, ctypes.c_char_p
     to = ctypes.POINTER
     types = {
@@ -85,16 +95,26 @@ class Compositor:
 
     def __init__(self, w, h, tile=256, background=0xFFFFFFFF, budget=64 << 20, library=None):
         self._handle = ctypes.c_void_p()
+        self._thread = threading.get_ident()
         self._library = library or load()
         words = w, h, tile, background, budget
         within(self._library.cc_new_.argtypes, words)
         self._answer(self._library.cc_new_(*words, ctypes.byref(self._handle)))
 
     def close(self):
-        """Ends the compositor."""
+        """Ends the compositor, once."""
         if self._handle:
-            self._library.cc_free_(self._handle)
-            self._handle = ctypes.c_void_p()
+            self._look_at_thread()
+            self._free()
+
+    def _free(self):
+        handle, self._handle = self._handle, ctypes.c_void_p()
+        self._library.cc_free_(handle)
+
+    def _look_at_thread(self):
+        """Raises RuntimeError on another thread: ctypes lets threads run side by side in the library, which has no lock."""
+        if threading.get_ident() != self._thread:
+            raise RuntimeError("a compositor is used by the thread that made it")
 
     def __enter__(self):
         return self
@@ -103,10 +123,13 @@ class Compositor:
         self.close()
 
     def __del__(self):
-        if getattr(self, "_library", None):
-            self.close()
+        if getattr(self, "_library", None) and self._handle:
+            self._free()
 
     def _call(self, name, *words):
+        if not self._handle:
+            raise RuntimeError("the compositor is closed")
+        self._look_at_thread()
         function = getattr(self._library, name)
         within(function.argtypes[1:], words)
         return function(self._handle, *words, ctypes.byref(self._handle))
@@ -193,8 +216,7 @@ class Compositor:
         self._answer(self._call("cc_copy_", order, top, bottom, stride, ctypes.addressof(room), len(buffer)))
         return buffer
 
-    # The commands, which change the main page.
-
+    # The commands, which change the main page: made by tools/command_fields.py.
     def add_transform(self, id, parent=0, x=0, y=0, scroller=0):
         self._edit(1, id, parent, x, y, scroller)
 
@@ -257,3 +279,4 @@ class Compositor:
 
     def replace_bitmap(self, layer, at, rect, pixels):
         self._edit(21, layer, at, *rect, pixels=bytes(pixels))
+    # The end of what is made.

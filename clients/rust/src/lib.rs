@@ -292,46 +292,59 @@ impl Compositor {
 
 /// The commands, which change the main page.
 impl Compositor {
+    // What follows is made by tools/command_fields.py.
+    /// Adds a transform: the translation of its parent, plus `(x, y)`, minus the offset of the scroller, if it names
+    /// one.
     pub fn add_transform(&mut self, id: i32, parent: i32, at: (i32, i32), scroller: i32) -> Result<(), Error> {
         self.edit(1, &[id, parent, at.0, at.1, scroller], 0, &[])
     }
 
+    /// Gives a transform another `(x, y)`.
     pub fn set_transform(&mut self, id: i32, at: (i32, i32)) -> Result<(), Error> {
         self.edit(2, &[id, at.0, at.1], 0, &[])
     }
 
+    /// Adds a clip: a rect that stands in the space of a transform, cut by the clips above it.
     pub fn add_clip(&mut self, id: i32, parent: i32, transform: i32, rect: Rect) -> Result<(), Error> {
         self.edit(3, &[id, parent, transform, rect.0, rect.1, rect.2, rect.3], 0, &[])
     }
 
+    /// Gives a clip another rect.
     pub fn set_clip(&mut self, id: i32, rect: Rect) -> Result<(), Error> {
         self.edit(4, &[id, rect.0, rect.1, rect.2, rect.3], 0, &[])
     }
 
+    /// Adds an effect.
     pub fn add_effect(&mut self, id: i32, parent: i32, opacity: i32) -> Result<(), Error> {
         self.edit(5, &[id, parent, opacity], 0, &[])
     }
 
+    /// Gives an effect another opacity.
     pub fn set_opacity(&mut self, id: i32, opacity: i32) -> Result<(), Error> {
         self.edit(6, &[id, opacity], 0, &[])
     }
 
+    /// Adds a scroller, whose main value is (0, 0).
     pub fn add_scroller(&mut self, id: i32, parent: i32, most: (i32, i32)) -> Result<(), Error> {
         self.edit(7, &[id, parent, most.0, most.1], 0, &[])
     }
 
+    /// Gives a scroller another range, and clamps its main value to it.
     pub fn set_range(&mut self, id: i32, most: (i32, i32)) -> Result<(), Error> {
         self.edit(8, &[id, most.0, most.1], 0, &[])
     }
 
+    /// Adds to a scroller's main value, and clamps it to the range.
     pub fn scroll_by(&mut self, id: i32, by: (i32, i32)) -> Result<(), Error> {
         self.edit(9, &[id, by.0, by.1], 0, &[])
     }
 
-    pub fn scroll_to(&mut self, id: i32, to: (i32, i32)) -> Result<(), Error> {
-        self.edit(10, &[id, to.0, to.1], 0, &[])
+    /// Sets a scroller's main value, clamped to the range.
+    pub fn scroll_to(&mut self, id: i32, at: (i32, i32)) -> Result<(), Error> {
+        self.edit(10, &[id, at.0, at.1], 0, &[])
     }
 
+    /// Adds a layer with an empty display list, so that it has this place.
     #[allow(clippy::too_many_arguments)]
     pub fn add_layer(
         &mut self,
@@ -346,46 +359,58 @@ impl Compositor {
         self.edit(11, &[id, at, transform, clip, effect, size.0, size.1], colour, &[])
     }
 
+    /// Takes a layer out for good: no later layer has its id.
     pub fn remove_layer(&mut self, id: i32) -> Result<(), Error> {
         self.edit(12, &[id], 0, &[])
     }
 
+    /// Gives a layer another size; its display list stays.
     pub fn resize_layer(&mut self, id: i32, size: (i32, i32)) -> Result<(), Error> {
         self.edit(13, &[id, size.0, size.1], 0, &[])
     }
 
+    /// Gives a layer another background colour.
     pub fn set_colour(&mut self, id: i32, colour: u32) -> Result<(), Error> {
         self.edit(14, &[id], colour, &[])
     }
 
+    /// Takes a layer out of the list and inserts it at this place of the others.
     pub fn move_layer(&mut self, id: i32, at: i32) -> Result<(), Error> {
         self.edit(15, &[id, at], 0, &[])
     }
 
+    /// Sets the viewport and the tile size.
     pub fn set_view(&mut self, size: (i32, i32), tile: i32) -> Result<(), Error> {
         self.edit(16, &[size.0, size.1, tile], 0, &[])
     }
 
+    /// Removes an item of a layer's display list.
     pub fn remove_item(&mut self, layer: i32, at: i32) -> Result<(), Error> {
         self.edit(17, &[layer, at], 0, &[])
     }
 
+    /// Inserts an item into a layer's display list, so that it has this place.
     pub fn insert_rect(&mut self, layer: i32, at: i32, rect: Rect, colour: u32) -> Result<(), Error> {
         self.edit(18, &[layer, at, rect.0, rect.1, rect.2, rect.3], colour, &[])
     }
 
+    /// Puts another item in the place of one of a layer's display list.
     pub fn replace_rect(&mut self, layer: i32, at: i32, rect: Rect, colour: u32) -> Result<(), Error> {
         self.edit(19, &[layer, at, rect.0, rect.1, rect.2, rect.3], colour, &[])
     }
 
-    /// Red, green, blue and alpha of each pixel, premultiplied, row by row.
+    /// Inserts an item into a layer's display list, so that it has this place. Red, green, blue and alpha of each
+    /// pixel, premultiplied, row by row.
     pub fn insert_bitmap(&mut self, layer: i32, at: i32, rect: Rect, pixels: &[u8]) -> Result<(), Error> {
         self.edit(20, &[layer, at, rect.0, rect.1, rect.2, rect.3], 0, pixels)
     }
 
+    /// Puts another item in the place of one of a layer's display list. Red, green, blue and alpha of each pixel,
+    /// premultiplied, row by row.
     pub fn replace_bitmap(&mut self, layer: i32, at: i32, rect: Rect, pixels: &[u8]) -> Result<(), Error> {
         self.edit(21, &[layer, at, rect.0, rect.1, rect.2, rect.3], 0, pixels)
     }
+    // The end of what is made.
 }
 
 impl Drop for Compositor {

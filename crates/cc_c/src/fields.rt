@@ -1,22 +1,22 @@
-//! Numbers of C as numbers and colours of commands.
+//! Numbers of C as the fields of commands.
 
-ghost use Rattle.std.specs.Prelude.{◌≡◌};
+ghost use Rattle.std.specs.Prelude.{◌≡◌, ◌<◌, slice_get};
 ghost use Rattle.cc_c.specs.Commands as spec;
 
 use geom::Rect;
 use pixel::Colour;
 
-/// A field that is not below 0; None exactly where it is.
-pub(crate) fn natural(field: i32) -> Option<u32>
-    ensures { result ≡ spec.natural field }
+// A number that is not below 0; None exactly if it is.
+fn natural(number: i32) -> Option<u32>
+    ensures { result ≡ spec.natural number }
 {
-    if field < 0 {
+    if number < 0 {
         return None;
     }
-    Some(field as u32)
+    Some(number as u32)
 }
 
-/// The premultiplied colour 0xRRGGBBAA; None exactly where red, green or blue exceeds alpha.
+/// The premultiplied colour 0xRRGGBBAA; None exactly if red, green or blue exceeds alpha.
 pub fn colour_of(rgba: u32) -> Option<Colour>
     ensures { result ≡ spec.colour_of rgba }
 {
@@ -27,18 +27,42 @@ pub fn colour_of(rgba: u32) -> Option<Colour>
     Colour::new(r, g, b, a)
 }
 
-/// X, y, w, h; None where there are not four.
-#[tactic(auto, unfolding(crate::specs::Commands::rect_of))]
-pub(crate) fn rect_of(fields: &[i32]) -> Option<Rect>
-    ensures { result ≡ spec.rect_of fields.now }
+/// The number at this place, counted from 0; None exactly if there is none.
+pub(crate) fn signed(numbers: &[i32], at: usize) -> Option<i32>
+    ensures { result ≡ slice_get numbers.now at }
 {
-    let [x, y, w, h] = fields else {
-        return None;
-    };
-    Some(Rect {
-        x: *x,
-        y: *y,
-        w: *w,
-        h: *h,
-    })
+    numbers.get(at).copied()
+}
+
+/// The same, if it is not below 0.
+#[tactic(auto, unfolding(crate::specs::Commands::whole_at))]
+pub(crate) fn whole(numbers: &[i32], at: usize) -> Option<u32>
+    ensures { result ≡ spec.whole_at at numbers.now }
+{
+    natural(signed(numbers, at)?)
+}
+
+/// X, y, w, h from this place on; None if there are not four.
+#[tactic(auto, unfolding(crate::specs::Commands::rect_at))]
+pub(crate) fn rect(numbers: &[i32], at: usize) -> Option<Rect>
+    requires { at < 4294967296 }
+    ensures { result ≡ spec.rect_at at numbers.now }
+{
+    let x = signed(numbers, at)?;
+    let y = signed(numbers, at + 1)?;
+    let w = signed(numbers, at + 2)?;
+    let h = signed(numbers, at + 3)?;
+    Some(Rect { x, y, w, h })
+}
+
+/// Nothing, if there are just as many numbers; else None.
+#[tactic(auto, unfolding(crate::specs::Commands::no_more))]
+pub(crate) fn no_more(numbers: &[i32], count: usize) -> Option<()>
+    ensures { result ≡ spec.no_more count numbers.now }
+{
+    if numbers.len() == count {
+        Some(())
+    } else {
+        None
+    }
 }

@@ -2,7 +2,7 @@
 //!
 //! C keeps a handle, which is a pointer, and gives it to one call at a time. Each call takes the handle and gives it
 //! back in `out`: the same pointer. What a call did is told by a status. While C has the pointer, `box_parts` says
-//! what it owns; commands come as numbers and bytes, and `commands` says what they mean.
+//! what it owns; commands come as numbers and bytes, and `meaning` says what they mean.
 #![tactic(auto)]
 
 mod box_parts;
@@ -17,9 +17,7 @@ mod fields;
 mod handle;
 mod held;
 mod items;
-mod layers;
-mod nodes;
-mod scrollers;
+mod meaning;
 mod status;
 
 ghost use Rattle.std.specs.Prelude.{◌≡◌, ◌≤◌, true, false, length, IfSome};
@@ -86,7 +84,7 @@ fn made(alloc: Global, view: View, background: Colour, budget: usize) -> Option<
     Box::new(alloc, Held { compositor }).ok()
 }
 
-/// A compositor of an empty page, in `out`: BAD where the view is out of its ranges or the background is not
+/// A compositor of an empty page, in `out`: BAD if the view is out of its ranges or the background is not
 /// premultiplied.
 #[unsafe(no_mangle)]
 pub extern "C" fn cc_new_(
@@ -124,7 +122,7 @@ pub extern "C" fn cc_free_(page: Handle) {
     drop(page.into_box());
 }
 
-// Starts the main page anew, where the view is in its ranges.
+// Starts the main page anew, if the view is in its ranges.
 fn renewed(page: &mut Compositor<Rgba>, view: View) -> u32
     ensures { TellsReset page.old view page.new result }
 {
@@ -135,7 +133,7 @@ fn renewed(page: &mut Compositor<Rgba>, view: View) -> u32
     DONE
 }
 
-/// Starts the main page anew: BAD where the view is out of its ranges.
+/// Starts the main page anew: BAD if the view is out of its ranges.
 #[unsafe(no_mangle)]
 pub extern "C" fn cc_reset_(page: Handle, w: u32, h: u32, tile: u32, out: &mut *mut u8) -> u32
     ensures { (new : CompositorView) × TellsReset page.value.compositor (record { w = w; h = h; tile = tile }) new result }
@@ -146,8 +144,8 @@ pub extern "C" fn cc_reset_(page: Handle, w: u32, h: u32, tile: u32, out: &mut *
     status
 }
 
-/// Applies the command with this number, these fields, this colour and these pixels: BAD where they mean none,
-/// REFUSED where the page refuses it, and the fault is then told.
+/// Applies the command with this number, these fields, this colour and these pixels: BAD if they mean none,
+/// REFUSED if the page refuses it, and the fault is then told.
 #[unsafe(no_mangle)]
 pub extern "C" fn cc_edit_(
     alloc: Global,
@@ -209,7 +207,7 @@ fn scrolled(
     }
 }
 
-/// Scrolls, and tells how far: UNKNOWN where the active page has no such scroller.
+/// Scrolls, and tells how far: UNKNOWN if the active page has no such scroller.
 #[unsafe(no_mangle)]
 pub extern "C" fn cc_scroll_(
     page: Handle,
@@ -262,7 +260,7 @@ fn is_amount(asked: i32) -> bool
     asked >= -1048576 && asked <= 1048576
 }
 
-/// Scrolls what lies under a point, and tells what is left: BAD where more than 1048576 is asked along an axis.
+/// Scrolls what lies under a point, and tells what is left: BAD if more than 1048576 is asked along an axis.
 #[unsafe(no_mangle)]
 pub extern "C" fn cc_wheel_(
     page: Handle,
@@ -284,7 +282,7 @@ pub extern "C" fn cc_wheel_(
     status
 }
 
-/// Where a scroller of the active page stands; (0, 0) where there is none.
+/// Where a scroller of the active page stands; (0, 0) if there is none.
 #[unsafe(no_mangle)]
 pub extern "C" fn cc_offset_(
     page: Handle,
@@ -303,7 +301,7 @@ pub extern "C" fn cc_offset_(
     *out = given(page);
 }
 
-/// The topmost layer at a point; 0 where there is none.
+/// The topmost layer at a point; 0 if there is none.
 #[unsafe(no_mangle)]
 pub extern "C" fn cc_target_(
     page: Handle,
@@ -326,7 +324,7 @@ pub extern "C" fn cc_target_(
     status
 }
 
-/// Whether a draw may change the frame: 1, or 0 where the frame shows the active page already.
+/// Whether a draw may change the frame: 1, or 0 if the frame shows the active page already.
 #[unsafe(no_mangle)]
 pub extern "C" fn cc_is_changed_(page: Handle, out: &mut *mut u8) -> u32
     ensures { TellsChanged page.value.compositor result }
@@ -386,7 +384,7 @@ pub extern "C" fn cc_size_(page: Handle, w: &mut u32, h: &mut u32, out: &mut *mu
     *out = given(page);
 }
 
-/// Copies rows of the frame, as red, green, blue and alpha, or as blue, green, red and alpha: SHORT where the buffer
+/// Copies rows of the frame, as red, green, blue and alpha, or as blue, green, red and alpha: SHORT if the buffer
 /// cannot hold them, and nothing is copied then.
 #[unsafe(no_mangle)]
 pub extern "C" fn cc_copy_(

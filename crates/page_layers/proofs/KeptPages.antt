@@ -10,11 +10,12 @@ use Rattle.region.specs.Lists.{Changed}
 use Rattle.page_layers.specs.declared.fault.EditError.{EditError}
 use Rattle.page_layers.specs.declared.fault.EditError.TheVariants as error
 use Rattle.page_layers.specs.declared.command.Command.{Command}
+use Rattle.page_layers.specs.declared.command.Command.TheVariants as command
 use Rattle.page_layers.specs.Pages.{Page}
 use Rattle.page_layers.specs.Refusals.{test_of}
 use Rattle.page_layers.specs.Effects.{page_after_command}
 use Rattle.page_layers.specs.Outcomes.{StandTogether, Accepts, Refuses, Outcome}
-use Rattle.page_layers.specs.inner.Tested.{may_part, Tested}
+use Rattle.page_layers.specs.inner.Tested.{may_part, Tested, Promised}
 use Rattle.page_layers.specs.Sound.{IsPage}
 use Rattle.page_layers.proofs.AfterKeeps.{after-keeps}
 
@@ -31,6 +32,12 @@ pub outcome_of : (old new : Page) (c : Command) (r : Result Changed EditError) �
 outcome_of old new c (Ok changes) whole is t = (record { passes = t.0; together = (after-keeps old c is t.0 (λ e. absurd (cc))).nested }, t.1, t.2)
 outcome_of old new c (Err (error.Refused fault)) whole is t = (inl t.0, t.1)
 outcome_of old new c (Err (error.Memory e)) whole is t = t
+
+-- what each command promises
+pub promised : (old new : Page) (c : Command) (r : Result Changed EditError) → IsPage old → Promised old c new r → Outcome old c new r
+promised old new (command.AddLayer c) r is p = p
+promised old new (command.MoveLayer c) r is p = p
+promised old new c r is p = outcome_of old new c r refl is p
 
 -- ---- commands that may part layers
 

@@ -1,4 +1,6 @@
 pub mod Painting
+pub mod FieldForms
+pub mod CommandFields
 pub mod Tests
 pub mod Lists
 pub mod Layers

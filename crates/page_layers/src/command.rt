@@ -1,5 +1,8 @@
 //! The commands of the main thread.
 
+ghost use Rattle.std.specs.Prelude.{◌≡◌};
+ghost use Rattle.page_layers.specs.CommandFields.{node_op_named, layer_op_named, op_named, op_numbered};
+
 use geom::Rect;
 use page_display_list::Item;
 use pixel::Colour;
@@ -9,7 +12,7 @@ use pixel::Colour;
 #[derive(Drop)]
 pub enum Command {
     /// Adds a transform: the translation of its parent, plus `(x, y)`, minus the offset of the
-    /// scroller, where it names one.
+    /// scroller, if it names one.
     AddTransform(AddTransform),
     /// Gives a transform another `(x, y)`.
     SetTransform(SetTransform),
@@ -180,7 +183,7 @@ pub struct AddLayer {
     pub w: u32,
     /// The height, 1 to 16384 pixels.
     pub h: u32,
-    /// What is drawn where a tile is missing.
+    /// What is drawn if a tile is missing.
     pub colour: Colour,
 }
 
@@ -207,7 +210,7 @@ pub struct ResizeLayer {
 pub struct SetColour {
     /// The layer.
     pub id: u32,
-    /// What is drawn where a tile is missing.
+    /// What is drawn if a tile is missing.
     pub colour: Colour,
 }
 
@@ -260,4 +263,128 @@ pub struct SetView {
     pub h: u32,
     /// The side of a tile, 16 to 256 pixels.
     pub tile: u32,
+}
+
+/// Which command: it has a name in scripts, and a number in the library for C.
+#[derive(Clone, Copy)]
+pub enum Op {
+    /// `add_transform`.
+    AddTransform,
+    /// `set_transform`.
+    SetTransform,
+    /// `add_clip`.
+    AddClip,
+    /// `set_clip`.
+    SetClip,
+    /// `add_effect`.
+    AddEffect,
+    /// `set_opacity`.
+    SetOpacity,
+    /// `add_scroller`.
+    AddScroller,
+    /// `set_range`.
+    SetRange,
+    /// `scroll_by`.
+    ScrollBy,
+    /// `scroll_to`.
+    ScrollTo,
+    /// `add_layer`.
+    AddLayer,
+    /// `remove_layer`.
+    RemoveLayer,
+    /// `resize_layer`.
+    ResizeLayer,
+    /// `set_colour`.
+    SetColour,
+    /// `insert_item`.
+    InsertItem,
+    /// `remove_item`.
+    RemoveItem,
+    /// `replace_item`.
+    ReplaceItem,
+    /// `move_layer`.
+    MoveLayer,
+    /// `set_view`.
+    SetView,
+}
+
+// The command on the nodes of a page that has this name.
+#[tactic(auto, unfolding(crate::specs::CommandFields::node_op_named))]
+fn node_op_named(name: &str) -> Option<Op>
+    ensures { result ≡ node_op_named name.now }
+{
+    match name {
+        "add_transform" => Some(Op::AddTransform),
+        "set_transform" => Some(Op::SetTransform),
+        "add_clip" => Some(Op::AddClip),
+        "set_clip" => Some(Op::SetClip),
+        "add_effect" => Some(Op::AddEffect),
+        "set_opacity" => Some(Op::SetOpacity),
+        "add_scroller" => Some(Op::AddScroller),
+        "set_range" => Some(Op::SetRange),
+        "scroll_by" => Some(Op::ScrollBy),
+        "scroll_to" => Some(Op::ScrollTo),
+        _ => None,
+    }
+}
+
+// The command on the layers of a page, their items or the view that has this name.
+#[tactic(auto, unfolding(crate::specs::CommandFields::layer_op_named))]
+fn layer_op_named(name: &str) -> Option<Op>
+    ensures { result ≡ layer_op_named name.now }
+{
+    match name {
+        "add_layer" => Some(Op::AddLayer),
+        "remove_layer" => Some(Op::RemoveLayer),
+        "resize_layer" => Some(Op::ResizeLayer),
+        "set_colour" => Some(Op::SetColour),
+        "insert_item" => Some(Op::InsertItem),
+        "remove_item" => Some(Op::RemoveItem),
+        "replace_item" => Some(Op::ReplaceItem),
+        "move_layer" => Some(Op::MoveLayer),
+        "set_view" => Some(Op::SetView),
+        _ => None,
+    }
+}
+
+impl Op {
+    /// The command of this name in scripts.
+    #[tactic(auto, unfolding(crate::specs::CommandFields::op_named))]
+    pub fn named(name: &str) -> Option<Op>
+        ensures { result ≡ op_named name.now }
+    {
+        match node_op_named(name) {
+            Some(op) => Some(op),
+            None => layer_op_named(name),
+        }
+    }
+
+    /// The command of this number in the library for C.
+    #[tactic(auto, unfolding(crate::specs::CommandFields::op_numbered))]
+    pub fn numbered(number: u32) -> Option<Op>
+        ensures { result ≡ op_numbered number }
+    {
+        match number {
+            1 => Some(Op::AddTransform),
+            2 => Some(Op::SetTransform),
+            3 => Some(Op::AddClip),
+            4 => Some(Op::SetClip),
+            5 => Some(Op::AddEffect),
+            6 => Some(Op::SetOpacity),
+            7 => Some(Op::AddScroller),
+            8 => Some(Op::SetRange),
+            9 => Some(Op::ScrollBy),
+            10 => Some(Op::ScrollTo),
+            11 => Some(Op::AddLayer),
+            12 => Some(Op::RemoveLayer),
+            13 => Some(Op::ResizeLayer),
+            14 => Some(Op::SetColour),
+            15 => Some(Op::MoveLayer),
+            16 => Some(Op::SetView),
+            17 => Some(Op::RemoveItem),
+            18 => Some(Op::InsertItem),
+            19 => Some(Op::ReplaceItem),
+            _ => None,
+        }
+    }
 }

@@ -2,7 +2,7 @@
 //! it, and what it looks like.
 #![tactic(auto)]
 
-mod command;
+pub mod command;
 mod display;
 mod fault;
 mod groups;
@@ -21,11 +21,7 @@ mod tree_paint;
 mod value_offsets;
 mod view;
 
-pub use command::{
-    AddClip, AddEffect, AddLayer, AddScroller, AddTransform, Command, InsertItem, MoveLayer,
-    RemoveItem, RemoveLayer, ReplaceItem, ResizeLayer, ScrollBy, ScrollTo, SetClip, SetColour,
-    SetOpacity, SetRange, SetTransform, SetView,
-};
+pub use command::Command;
 pub use fault::{EditError, EditFault};
 pub use groups::groups_of;
 pub use laws::{commands_keep_the_rest, targets_are_topmost};

@@ -14,24 +14,7 @@ use Rattle.recording_text.specs.Views.{view_after, view_through, views_through, 
 
 after_view : (p : Page) (c : Command) → (page_after_command p c).view ≡ view_after p.view c
 after_view p (command.AddTransform c) = refl
-after_view p (command.SetTransform c) = refl
-after_view p (command.AddClip c) = refl
-after_view p (command.SetClip c) = refl
-after_view p (command.AddEffect c) = refl
-after_view p (command.SetOpacity c) = refl
-after_view p (command.AddScroller c) = refl
-after_view p (command.SetRange c) = refl
-after_view p (command.ScrollBy c) = refl
-after_view p (command.ScrollTo c) = refl
-after_view p (command.AddLayer c) = refl
-after_view p (command.RemoveLayer c) = refl
-after_view p (command.ResizeLayer c) = refl
-after_view p (command.SetColour c) = refl
-after_view p (command.InsertItem c) = refl
-after_view p (command.RemoveItem c) = refl
-after_view p (command.ReplaceItem c) = refl
-after_view p (command.MoveLayer c) = refl
-after_view p (command.SetView c) = refl
+after_view p _ = refl
 
 commanded_view : (cs : List Command) (p : Page) → (commanded cs p).view ≡ view_through p.view cs
 commanded_view [] p = refl

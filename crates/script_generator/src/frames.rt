@@ -7,7 +7,7 @@ ghost use Rattle.script_generator.specs.Generated as spec;
 use crate::draws::Draws;
 use geom::Rect;
 use page_display_list::Item;
-use page_layers::{
+use page_layers::command::{
     AddClip, AddEffect, AddLayer, AddScroller, AddTransform, Command, InsertItem, ReplaceItem,
     ScrollBy,
 };

@@ -13,15 +13,17 @@ use Rattle.script_fields.specs.Faults.{◌>>=◌, fault, or_fault}
 use Rattle.script_fields.specs.Fields.{object_at, whole_at, number_at, no_more_members}
 use Rattle.script_fields.proofs.Again.{left, right}
 use Rattle.script_json.specs.declared.fault.ShapeFault.{ShapeFault}
-use Rattle.script_json.specs.declared.op.Op.{Op}
-use Rattle.script_json.specs.declared.op.Op.TheVariants as op
+use Rattle.page_layers.specs.declared.command.Op.{Op}
+use Rattle.page_layers.specs.declared.command.Op.TheVariants as op
 use Rattle.script_json.specs.declared.op.InputOp.{InputOp}
 use Rattle.script_json.specs.declared.op.InputOp.TheVariants as kind
 use Rattle.script_json.specs.Faults.{placed, before_rest}
-use Rattle.script_json.specs.Ops.{op_at, op_named, is_of_version}
+use Rattle.script_json.specs.Ops.{op_at}
 use Rattle.script_json.specs.CommandReading.{fields_at, command_at, commands_at, frame_at, frames_at}
 use Rattle.script_json.specs.InputReading.{input_op_at, below, input_fields_at, input_at, draws_after, inputs_at}
 use Rattle.script_json.specs.inner.Streamed.{is_view, awaits_within}
+use Rattle.page_layers.specs.CommandFields.{op_named}
+use Rattle.model_history.specs.Ranges.{is_of_version}
 
 -- ---- one after another
 

@@ -1,5 +1,5 @@
 -- Commands and main frames: what is printed reads back, and what is read is in the ranges.
-use Rattle.std.proofs.Common.{◌≡◌, ℕ, suc, ◌+◌, List, [], ◌∷◌, length, map, Bool, true, false, Some, None, Result, Ok, Err, IfOk, IfSome, option_and_then, codes, if◌then◌else◌, refl, ap}
+use Rattle.std.proofs.Common.{◌≡◌, ℕ, suc, ◌+◌, List, [], ◌∷◌, length, map, Bool, true, false, ◌==◌, Some, None, Result, Ok, Err, IfOk, IfSome, option_and_then, codes, if◌then◌else◌, refl, sym, ap, ◌∙◌}
 use Rattle.std.specs.List.{list_all}
 use Rattle.serde_json.specs.Data.{Data, Items, no_items, item}
 use Rattle.serde_json.specs.Events.{items_len}
@@ -8,57 +8,101 @@ use Rattle.serde_json.specs.View.{items_of}
 use Rattle.page_display_list.specs.declared.item.Item.{Item}
 use Rattle.page_display_list.specs.declared.item.Item.TheVariants as kind
 use Rattle.page_layers.specs.declared.command.Command.{Command}
-use Rattle.page_layers.specs.declared.command.Command.TheVariants.{AddTransform, SetTransform, AddClip, SetClip, AddEffect, SetOpacity, AddScroller, SetRange, ScrollBy, ScrollTo, AddLayer, RemoveLayer, ResizeLayer, SetColour, InsertItem, RemoveItem, ReplaceItem, MoveLayer, SetView}
-use Rattle.model_history.specs.Ranges.{command_in_range}
+use Rattle.page_layers.specs.declared.command.Command.TheVariants.{AddTransform, InsertItem, ReplaceItem, SetView}
+use Rattle.model_history.specs.Ranges.{command_in_range, is_of_version, all_fit}
 use Rattle.script_fields.specs.declared.fault.FieldFault.{FieldFault}
 use Rattle.script_fields.specs.Faults.{or_fault}
-use Rattle.script_fields.specs.Fields.{object_at}
+use Rattle.script_fields.specs.Fields.{object_at, no_more_members}
 use Rattle.script_fields.proofs.Again.{left, right, both}
 use Rattle.script_fields.proofs.Fits.{then_ok, then_any, then_some, or_fault_ok}
 use Rattle.script_json.specs.declared.fault.ShapeFault.{ShapeFault}
-use Rattle.script_json.specs.declared.op.Op.{Op}
-use Rattle.script_json.specs.declared.op.Op.TheVariants as op
+use Rattle.page_layers.specs.declared.command.Op.{Op}
+use Rattle.page_layers.specs.declared.command.Op.TheVariants as op
 use Rattle.script_json.specs.Faults.{placed, before_rest}
-use Rattle.script_json.specs.Ops.{op_at, op_named, is_of_version}
+use Rattle.script_json.specs.Ops.{op_at}
+use Rattle.page_layers.specs.CommandFields.{fields, make, op_of, values_of, op_named, node_op_named, layer_op_named}
 use Rattle.script_json.specs.CommandReading.{fields_at, command_at, commands_at, frame_at, frames_at}
-use Rattle.script_json.specs.ItemValues.{item_data}
 use Rattle.script_json.specs.CommandValues.{command_data, frame_data}
-use Rattle.script_json.proofs.NodeLaws.{add_transform_again, add_transform_fits, set_transform_again, set_transform_fits, add_clip_again, add_clip_fits, set_clip_again, set_clip_fits, add_effect_again, add_effect_fits, set_opacity_again, set_opacity_fits, add_scroller_again, add_scroller_fits, set_range_again, set_range_fits, scroll_by_again, scroll_by_fits, scroll_to_again, scroll_to_fits}
-use Rattle.script_json.proofs.LayerLaws.{add_layer_again, add_layer_fits, remove_layer_again, remove_layer_fits, resize_layer_again, resize_layer_fits, set_colour_again, set_colour_fits, remove_item_again, remove_item_fits, move_layer_again, move_layer_fits, set_view_again, set_view_fits}
-use Rattle.script_json.proofs.ItemLaws.{insert_rect_again, insert_bitmap_again, replace_rect_again, replace_bitmap_again, insert_item_fits, replace_item_fits}
+use Rattle.script_json.proofs.ItemLaws.{item_again}
+use Rattle.script_json.proofs.Rows.{are_plain, after, fit_first, made_again, made_fits}
+use Rattle.script_json.proofs.Members.{are_distinct, has_row}
+use Rattle.page_layers.specs.FieldForms.{Row, made}
+
+-- ---- the list of fields
+
+-- a command without an item
+abbrev is_plain_command : Command → Bool
+is_plain_command (InsertItem c) = false
+is_plain_command (ReplaceItem c) = false
+is_plain_command _ = true
+
+distinct : (o : Op) → are_distinct (fields o) ≡ true
+distinct op.AddTransform = refl
+distinct _ = refl
+
+plain : (c : Command) → is_plain_command c ≡ true → are_plain (fields (op_of c)) ≡ true
+plain (InsertItem c) h = absurd (cc)
+plain (ReplaceItem c) h = absurd (cc)
+plain _ h = refl
+
+-- the command of a command's values is the command
+same_command : (c : Command) → made (fields (op_of c)) (make (op_of c)) (values_of c) ≡ c
+same_command (AddTransform c) = refl
+same_command _ = refl
+
+-- its values are in the ranges of their forms
+pub fit_values : (version : ℕ) (c : Command) → command_in_range version c ≡ all_fit (is_of_version version (op_of c)) (fields (op_of c)) (values_of c)
+fit_values version (AddTransform c) = refl
+fit_values version _ = refl
+
+fit_made : (version : ℕ) (o : Op) (row : Row (fields o)) → command_in_range version (made (fields o) (make o) row) ≡ all_fit (is_of_version version o) (fields o) row
+fit_made version op.AddTransform row = refl
+fit_made version _ row = refl
+
+-- an object has no member but the fields and `op`
+ends : (c : Command) → is_plain_command c ≡ true → no_more_members (after (fields (op_of c)) 1) (command_data c) ≡ Ok tt
+unfolding no_more_members command_data
+ends (InsertItem c) h = absurd (cc)
+ends (ReplaceItem c) h = absurd (cc)
+ends _ h = refl
+
+-- its name is read first
+begins_item : (version : ℕ) (layer place : ℕ) (i : Item) → command_at version (command_data (InsertItem (record { layer = layer; at = place; item = i }))) ≡ fields_at op.InsertItem (command_data (InsertItem (record { layer = layer; at = place; item = i })))
+unfolding command_at object_at op_at op_named node_op_named layer_op_named command_data
+begins_item version layer place (kind.Rect rect colour) = refl
+begins_item version layer place (kind.Bitmap picture) = refl
+
+begins_other : (version : ℕ) (layer place : ℕ) (i : Item) → command_at version (command_data (ReplaceItem (record { layer = layer; at = place; item = i }))) ≡ fields_at op.ReplaceItem (command_data (ReplaceItem (record { layer = layer; at = place; item = i })))
+unfolding command_at object_at op_at op_named node_op_named layer_op_named command_data
+begins_other version layer place (kind.Rect rect colour) = refl
+begins_other version layer place (kind.Bitmap picture) = refl
+
+begins : (version : ℕ) (c : Command) → is_of_version version (op_of c) ≡ true → command_at version (command_data c) ≡ fields_at (op_of c) (command_data c)
+unfolding command_at object_at op_at op_named node_op_named layer_op_named command_data
+begins version (InsertItem c) of_version = begins_item version c.layer c.at c.item
+begins version (ReplaceItem c) of_version = begins_other version c.layer c.at c.item
+begins version (SetView c) of_version =
+    let is_two : (version == 2) ≡ true = of_version in
+    rw is_two refl
+begins version _ of_version = refl
 
 -- ---- what is printed reads back
 
-insert_again : (version layer place : ℕ) (i : Item) → command_in_range version (InsertItem (record { layer = layer; at = place; item = i })) ≡ true
-    → command_at version (item_data (codes "insert_item") layer place i) ≡ Ok (InsertItem (record { layer = layer; at = place; item = i }))
-insert_again version layer place (kind.Rect rect colour) all = insert_rect_again version layer place rect colour all
-insert_again version layer place (kind.Bitmap picture) all = insert_bitmap_again version layer place picture all
+plain_again : (version : ℕ) (c : Command) → is_plain_command c ≡ true → command_in_range version c ≡ true → fields_at (op_of c) (command_data c) ≡ Ok c
+unfolding fields_at command_data
+plain_again version c is_plain all =
+    made_again (is_of_version version (op_of c)) (fields (op_of c)) (make (op_of c)) (values_of c) 1 (command_data c)
+    (plain c is_plain) (sym (fit_values version c) ∙ all) (has_row (fields (op_of c)) (values_of c) _ (plain c is_plain) (distinct (op_of c))) (ends c is_plain)
+    ∙ ap Ok (same_command c)
 
-replace_again : (version layer place : ℕ) (i : Item) → command_in_range version (ReplaceItem (record { layer = layer; at = place; item = i })) ≡ true
-    → command_at version (item_data (codes "replace_item") layer place i) ≡ Ok (ReplaceItem (record { layer = layer; at = place; item = i }))
-replace_again version layer place (kind.Rect rect colour) all = replace_rect_again version layer place rect colour all
-replace_again version layer place (kind.Bitmap picture) all = replace_bitmap_again version layer place picture all
+fields_again : (version : ℕ) (c : Command) → command_in_range version c ≡ true → fields_at (op_of c) (command_data c) ≡ Ok c
+fields_again version (InsertItem c) all = item_again true c.layer c.at c.item all
+fields_again version (ReplaceItem c) all = item_again false c.layer c.at c.item all
+fields_again version c all = plain_again version c refl all
 
 pub command_again : (version : ℕ) (c : Command) → command_in_range version c ≡ true → command_at version (command_data c) ≡ Ok c
-command_again version (AddTransform c) all = add_transform_again version c.id c.parent c.x c.y c.scroller all
-command_again version (SetTransform c) all = set_transform_again version c.id c.x c.y all
-command_again version (AddClip c) all = add_clip_again version c.id c.parent c.transform c.rect all
-command_again version (SetClip c) all = set_clip_again version c.id c.rect all
-command_again version (AddEffect c) all = add_effect_again version c.id c.parent c.opacity all
-command_again version (SetOpacity c) all = set_opacity_again version c.id c.opacity all
-command_again version (AddScroller c) all = add_scroller_again version c.id c.parent c.max_x c.max_y all
-command_again version (SetRange c) all = set_range_again version c.id c.max_x c.max_y all
-command_again version (ScrollBy c) all = scroll_by_again version c.id c.dx c.dy all
-command_again version (ScrollTo c) all = scroll_to_again version c.id c.x c.y all
-command_again version (AddLayer c) all = add_layer_again version c.id c.at c.transform c.clip c.effect c.w c.h c.colour all
-command_again version (RemoveLayer c) all = remove_layer_again version c.id all
-command_again version (ResizeLayer c) all = resize_layer_again version c.id c.w c.h all
-command_again version (SetColour c) all = set_colour_again version c.id c.colour all
-command_again version (InsertItem c) all = insert_again version c.layer c.at c.item all
-command_again version (RemoveItem c) all = remove_item_again version c.layer c.at all
-command_again version (ReplaceItem c) all = replace_again version c.layer c.at c.item all
-command_again version (MoveLayer c) all = move_layer_again version c.id c.at all
-command_again version (SetView c) all = set_view_again version c.w c.h c.tile all
+command_again version c all =
+    begins version c (fit_first (is_of_version version (op_of c)) (fields (op_of c)) (values_of c) (sym (fit_values version c) ∙ all)) ∙ fields_again version c all
 
 commands_again : (version list index : ℕ) (cs : List Command) → list_all (command_in_range version) cs ≡ true
     → commands_at version list index (items_of (map command_data cs)) ≡ Ok cs
@@ -84,25 +128,9 @@ frames_again version list (cs ∷ main) all =
 -- ---- what is read is in the ranges
 
 fields_fits : (version : ℕ) (o : Op) → is_of_version version o ≡ true → (d : Data) → IfOk (fields_at o d) (λ c. command_in_range version c ≡ true)
-fields_fits version op.AddTransform of_version d = add_transform_fits version d
-fields_fits version op.SetTransform of_version d = set_transform_fits version d
-fields_fits version op.AddClip of_version d = add_clip_fits version d
-fields_fits version op.SetClip of_version d = set_clip_fits version d
-fields_fits version op.AddEffect of_version d = add_effect_fits version d
-fields_fits version op.SetOpacity of_version d = set_opacity_fits version d
-fields_fits version op.AddScroller of_version d = add_scroller_fits version d
-fields_fits version op.SetRange of_version d = set_range_fits version d
-fields_fits version op.ScrollBy of_version d = scroll_by_fits version d
-fields_fits version op.ScrollTo of_version d = scroll_to_fits version d
-fields_fits version op.AddLayer of_version d = add_layer_fits version d
-fields_fits version op.RemoveLayer of_version d = remove_layer_fits version d
-fields_fits version op.ResizeLayer of_version d = resize_layer_fits version d
-fields_fits version op.SetColour of_version d = set_colour_fits version d
-fields_fits version op.InsertItem of_version d = insert_item_fits version d
-fields_fits version op.RemoveItem of_version d = remove_item_fits version d
-fields_fits version op.ReplaceItem of_version d = replace_item_fits version d
-fields_fits version op.MoveLayer of_version d = move_layer_fits version d
-fields_fits version op.SetView of_version d = set_view_fits version of_version d
+unfolding fields_at
+fields_fits version o of_version d =
+    made_fits (is_of_version version o) (fields o) (make o) 1 d (λ c. command_in_range version c ≡ true) of_version (λ row h. fit_made version o row ∙ h)
 
 of_version_fits : (version : ℕ) (o : Op) → IfSome (if is_of_version version o then Some o else None) (λ p. is_of_version version p ≡ true)
 of_version_fits version o =

@@ -4,9 +4,9 @@ mod Nesting
 mod CommandLaws
 mod InputLaws
 mod ItemLaws
-mod LayerLaws
-mod NodeLaws
-mod PlainBack
+mod Rows
+mod Members
+mod PrintedItems
 mod CommandsBack
 mod ScriptsBack
 mod ReadCanonical

@@ -1,39 +1,44 @@
 -- What is printed for a script that the format can say reads back from its text.
-use Rattle.std.proofs.Common.{◌≡◌, ℕ, ℤ, ◌^◌, ◌<◌, pos, negsuc, ◌+◌, ◌/◌, ◌%◌, List, [], ◌∷◌, length, map, Bool, true, false, if◌then◌else◌, ◌&&◌, ◌==◌, nat_le, nat_lt, int_le, IsUtf8, codes, lit<, refl, arith}
+use Rattle.std.proofs.Common.{◌≡◌, ℕ, ℤ, ◌^◌, ◌<◌, pos, negsuc, ◌+◌, ◌/◌, ◌%◌, List, [], ◌∷◌, length, map, Bool, true, false, if◌then◌else◌, ◌&&◌, ◌==◌, nat_le, nat_lt, int_le, IsUtf8, codes, lit<, refl, sym, ◌∙◌, arith}
 use Rattle.std.proofs.lemmas.Bool.Decides.{nat_tests}
 use Rattle.std.proofs.lemmas.Str.{IsUtf8-append}
 use Rattle.std.specs.List.{list_all}
-use Rattle.json.proofs.Printed.Utf8.{IsUtf8-are_ascii}
-use Rattle.serde_json.specs.Data.{Data, string, member, no_members}
+use Rattle.json.proofs.Printed.Utf8.{are_ascii, IsUtf8-are_ascii}
+use Rattle.serde_json.specs.Data.{Data, string, Members, member, no_members}
 use Rattle.serde_json.specs.View.{items_of}
 use Rattle.geom.specs.declared.rect.Rect.{Rect}
 use Rattle.pixel.specs.Colours.{Parts, is_colour}
-use Rattle.page_display_list.specs.Bitmaps.{BitmapModel}
 use Rattle.page_display_list.specs.declared.item.Item.{Item}
 use Rattle.page_display_list.specs.declared.item.Item.TheVariants as kind
+use Rattle.page_display_list.specs.Content.{rect_of_item}
 use Rattle.page_layers.specs.declared.command.Command.{Command}
-use Rattle.page_layers.specs.declared.command.Command.TheVariants.{AddTransform, SetTransform, AddClip, SetClip, AddEffect, SetOpacity, AddScroller, SetRange, ScrollBy, ScrollTo, AddLayer, RemoveLayer, ResizeLayer, SetColour, InsertItem, RemoveItem, ReplaceItem, MoveLayer, SetView}
 use Rattle.tile_priority.specs.declared.tree_priority.TreePriority.{TreePriority}
 use Rattle.tile_priority.specs.declared.tree_priority.TreePriority.TheVariants.{Same, Smooth, New}
 use Rattle.model_history.specs.declared.input.Input.{Input}
 use Rattle.model_history.specs.declared.input.Input.TheVariants.{Scroll, Wheel, Draw, Await, Settle}
-use Rattle.model_history.specs.Ranges.{command_in_range, input_in_range, is_in_ranges, longest_side, item_in_range, is_rect, is_signed, is_u32, is_picture, are_pixels}
+use Rattle.model_history.specs.Ranges.{command_in_range, input_in_range, is_in_ranges, longest_side, item_in_range, is_rect, is_signed, is_u32, is_picture, are_pixels, is_of_version, fits, all_fit}
 use Rattle.model_history.specs.Scripts.{ScriptModel}
 use Rattle.script_fields.specs.Hex.{bytes_digits, six_digits, eight_digits, digit_of}
 use Rattle.script_fields.specs.Values.{number_data, int_data, opaque_data, colour_data, bytes_data, rect_data, sides_data}
 use Rattle.script_fields.proofs.Again.{left, right, colour_bytes}
-use Rattle.script_json.specs.NodeValues.{add_transform_data, set_transform_data, add_clip_data, set_clip_data, add_effect_data, set_opacity_data, add_scroller_data, set_range_data, scroll_by_data, scroll_to_data}
-use Rattle.script_json.specs.LayerValues.{add_layer_data, remove_layer_data, resize_layer_data, set_colour_data, remove_item_data, move_layer_data, set_view_data}
-use Rattle.script_json.specs.ItemValues.{rect_item_data, bitmap_data, item_data}
 use Rattle.script_json.specs.InputValues.{scroll_data, wheel_data, draw_data, await_data, settle_data, input_data}
 use Rattle.script_json.specs.Causes.{IsTextOf, IsScriptText}
-use Rattle.script_json.specs.CommandValues.{command_data, frame_data}
+use Rattle.page_layers.specs.declared.command.Op.{Op}
+use Rattle.page_layers.specs.declared.command.Op.TheVariants as op
+use Rattle.page_layers.specs.FieldForms as form
+use Rattle.script_json.specs.FieldLists.{data_of, put_painted, put_paint, with_members}
+use Rattle.page_layers.specs.CommandFields.{op_name, fields, op_of, values_of}
+use Rattle.script_json.specs.CommandValues.{op_members, command_data, frame_data}
 use Rattle.script_json.specs.Recordings.{script_text}
 use Rattle.script_json.specs.ScriptValue.{priority_name, main_data, inputs_data, parts_data}
 use Rattle.script_json.proofs.ItemLaws.{picture_pixels}
 use Rattle.script_json.proofs.Nesting.{nests_parts}
-use Rattle.script_json.proofs.ValuesReadBack.{Prints, PrintsItems, members_print, plain_reads, plain_utf8}
+use Rattle.script_json.proofs.ValuesReadBack.{Prints, PrintsItems, PrintsValues, members_print, plain_reads, plain_utf8}
+use Rattle.script_json.proofs.Rows.{fit_first}
+use Rattle.script_json.proofs.Members.{shape, prints_put}
+use Rattle.script_json.proofs.CommandLaws.{fit_values}
 use Rattle.script_json.proofs.ScriptLaws.{parts_again}
+use Rattle.page_layers.specs.FieldForms.{Form, Field, Held, Row}
 
 bounded_prints : (low high n : ℕ) → high < 2 ^ 64 → (nat_le low n && nat_le n high) ≡ true → n < 2 ^ 64
 bounded_prints low high n few h =
@@ -106,223 +111,50 @@ pixels_print (r ∷ g ∷ b ∷ a ∷ rest) h =
 pixels_prints : (rect : Rect) (bytes : List ℕ) → is_picture rect bytes ≡ true → IsUtf8 (bytes_digits bytes)
 pixels_prints rect bytes h = pixels_print bytes (picture_pixels rect bytes h)
 
-add_transform_prints : (version : ℕ) (id : ℕ) (parent : ℕ) (x : ℤ) (y : ℤ) (scroller : ℕ) → command_in_range version (AddTransform (record { id = id; parent = parent; x = x; y = y; scroller = scroller })) ≡ true
-    → Prints (add_transform_data id parent x y scroller)
-unfolding add_transform_data number_data
-add_transform_prints version id parent x y scroller all =
-    let h0 = left _ _ (left _ _ (left _ _ (left _ _ all))) in
-    let h1 = right _ _ (left _ _ (left _ _ (left _ _ all))) in
-    let h2 = right _ _ (left _ _ (left _ _ all)) in
-    let h3 = right _ _ (left _ _ all) in
-    let h4 = right _ _ all in
-    members_print (member (codes "id") (number_data id) (member (codes "op") (string (codes "add_transform")) (member (codes "parent") (number_data parent) (member (codes "scroller") (number_data scroller) (member (codes "x") (int_data x) (member (codes "y") (int_data y) no_members)))))) refl refl
-    (u32_prints id h0, (IsUtf8-are_ascii (codes "add_transform") refl, (u32_prints parent h1, (u32_prints scroller h4, (signed_prints x h2, (signed_prints y h3, tt))))))
+-- ---- commands
 
-set_transform_prints : (version : ℕ) (id : ℕ) (x : ℤ) (y : ℤ) → command_in_range version (SetTransform (record { id = id; x = x; y = y })) ≡ true
-    → Prints (set_transform_data id x y)
-unfolding set_transform_data number_data
-set_transform_prints version id x y all =
-    let h0 = left _ _ (left _ _ all) in
-    let h1 = right _ _ (left _ _ all) in
-    let h2 = right _ _ all in
-    members_print (member (codes "id") (number_data id) (member (codes "op") (string (codes "set_transform")) (member (codes "x") (int_data x) (member (codes "y") (int_data y) no_members)))) refl refl
-    (u32_prints id h0, (IsUtf8-are_ascii (codes "set_transform") refl, (signed_prints x h1, (signed_prints y h2, tt))))
+item_rect_prints : (i : Item) → item_in_range i ≡ true → Prints (rect_data (rect_of_item i))
+item_rect_prints (kind.Rect r c) h = rect_prints r (left _ _ h)
+item_rect_prints (kind.Bitmap p) h = rect_prints p.rect (left _ _ h)
 
-add_clip_prints : (version : ℕ) (id : ℕ) (parent : ℕ) (transform : ℕ) (rect : Rect) → command_in_range version (AddClip (record { id = id; parent = parent; transform = transform; rect = rect })) ≡ true
-    → Prints (add_clip_data id parent transform rect)
-unfolding add_clip_data number_data
-add_clip_prints version id parent transform rect all =
-    let h0 = left _ _ (left _ _ (left _ _ all)) in
-    let h1 = right _ _ (left _ _ (left _ _ all)) in
-    let h2 = right _ _ (left _ _ all) in
-    let h3 = right _ _ all in
-    members_print (member (codes "id") (number_data id) (member (codes "op") (string (codes "add_clip")) (member (codes "parent") (number_data parent) (member (codes "rect") (rect_data rect) (member (codes "transform") (number_data transform) no_members))))) refl refl
-    (u32_prints id h0, (IsUtf8-are_ascii (codes "add_clip") refl, (u32_prints parent h1, (rect_prints rect h3, (u32_prints transform h2, tt)))))
+value_prints : (f : Form) (v : Held f) → fits f v ≡ true → Prints (data_of f v)
+unfolding number_data colour_data
+value_prints form.whole v h = u32_prints v h
+value_prints form.signed v h = signed_prints v h
+value_prints form.rect v h = rect_prints v h
+value_prints form.colour v h = colour_prints v h
+value_prints form.item v h = item_rect_prints v h
 
-set_clip_prints : (version : ℕ) (id : ℕ) (rect : Rect) → command_in_range version (SetClip (record { id = id; rect = rect })) ≡ true
-    → Prints (set_clip_data id rect)
-unfolding set_clip_data number_data
-set_clip_prints version id rect all =
-    let h0 = left _ _ all in
-    let h1 = right _ _ all in
-    members_print (member (codes "id") (number_data id) (member (codes "op") (string (codes "set_clip")) (member (codes "rect") (rect_data rect) no_members))) refl refl
-    (u32_prints id h0, (IsUtf8-are_ascii (codes "set_clip") refl, (rect_prints rect h1, tt)))
+painted_prints : (i : Item) (ms : Members) → item_in_range i ≡ true → PrintsValues ms → PrintsValues (put_painted i ms)
+unfolding colour_data bytes_data
+painted_prints (kind.Rect r c) ms h all = prints_put (codes "colour") (colour_data c) ms (colour_prints c (right _ _ h)) all
+painted_prints (kind.Bitmap p) ms h all = prints_put (codes "pixels") (bytes_data p.pixels) ms (pixels_prints p.rect p.pixels (right _ _ h)) all
 
-add_effect_prints : (version : ℕ) (id : ℕ) (parent : ℕ) (opacity : ℕ) → command_in_range version (AddEffect (record { id = id; parent = parent; opacity = opacity })) ≡ true
-    → Prints (add_effect_data id parent opacity)
-unfolding add_effect_data number_data
-add_effect_prints version id parent opacity all =
-    let h0 = left _ _ (left _ _ all) in
-    let h1 = right _ _ (left _ _ all) in
-    let h2 = right _ _ all in
-    members_print (member (codes "id") (number_data id) (member (codes "op") (string (codes "add_effect")) (member (codes "opacity") (number_data opacity) (member (codes "parent") (number_data parent) no_members)))) refl refl
-    (u32_prints id h0, (IsUtf8-are_ascii (codes "add_effect") refl, (u32_prints opacity h2, (u32_prints parent h1, tt))))
+paint_prints : (f : Form) (v : Held f) (ms : Members) → fits f v ≡ true → PrintsValues ms → PrintsValues (put_paint f v ms)
+paint_prints form.item v ms h all = painted_prints v ms h all
+paint_prints form.whole v ms h all = all
+paint_prints form.signed v ms h all = all
+paint_prints form.rect v ms h all = all
+paint_prints form.colour v ms h all = all
 
-set_opacity_prints : (version : ℕ) (id : ℕ) (opacity : ℕ) → command_in_range version (SetOpacity (record { id = id; opacity = opacity })) ≡ true
-    → Prints (set_opacity_data id opacity)
-unfolding set_opacity_data number_data
-set_opacity_prints version id opacity all =
-    let h0 = left _ _ all in
-    let h1 = right _ _ all in
-    members_print (member (codes "id") (number_data id) (member (codes "op") (string (codes "set_opacity")) (member (codes "opacity") (number_data opacity) no_members))) refl refl
-    (u32_prints id h0, (IsUtf8-are_ascii (codes "set_opacity") refl, (u32_prints opacity h1, tt)))
+row_prints : (so_far : Bool) (fs : List Field) (row : Row fs) (ms : Members) → all_fit so_far fs row ≡ true → PrintsValues ms → PrintsValues (with_members fs row ms)
+row_prints so_far [] row ms h all = all
+row_prints so_far (f ∷ fs) row ms h all =
+    let fit : fits f.form row.0 ≡ true = right so_far (fits f.form row.0) (fit_first (so_far && fits f.form row.0) fs row.1 h) in
+    prints_put f.name (data_of f.form row.0) (put_paint f.form row.0 (with_members fs row.1 ms)) (value_prints f.form row.0 fit)
+    (paint_prints f.form row.0 (with_members fs row.1 ms) fit (row_prints (so_far && fits f.form row.0) fs row.1 ms h all))
 
-add_scroller_prints : (version : ℕ) (id : ℕ) (parent : ℕ) (max_x : ℕ) (max_y : ℕ) → command_in_range version (AddScroller (record { id = id; parent = parent; max_x = max_x; max_y = max_y })) ≡ true
-    → Prints (add_scroller_data id parent max_x max_y)
-unfolding add_scroller_data number_data
-add_scroller_prints version id parent max_x max_y all =
-    let h0 = left _ _ (left _ _ (left _ _ all)) in
-    let h1 = right _ _ (left _ _ (left _ _ all)) in
-    let h2 = right _ _ (left _ _ all) in
-    let h3 = right _ _ all in
-    members_print (member (codes "id") (number_data id) (member (codes "max_x") (number_data max_x) (member (codes "max_y") (number_data max_y) (member (codes "op") (string (codes "add_scroller")) (member (codes "parent") (number_data parent) no_members))))) refl refl
-    (u32_prints id h0, (u32_prints max_x h2, (u32_prints max_y h3, (IsUtf8-are_ascii (codes "add_scroller") refl, (u32_prints parent h1, tt)))))
-
-set_range_prints : (version : ℕ) (id : ℕ) (max_x : ℕ) (max_y : ℕ) → command_in_range version (SetRange (record { id = id; max_x = max_x; max_y = max_y })) ≡ true
-    → Prints (set_range_data id max_x max_y)
-unfolding set_range_data number_data
-set_range_prints version id max_x max_y all =
-    let h0 = left _ _ (left _ _ all) in
-    let h1 = right _ _ (left _ _ all) in
-    let h2 = right _ _ all in
-    members_print (member (codes "id") (number_data id) (member (codes "max_x") (number_data max_x) (member (codes "max_y") (number_data max_y) (member (codes "op") (string (codes "set_range")) no_members)))) refl refl
-    (u32_prints id h0, (u32_prints max_x h1, (u32_prints max_y h2, (IsUtf8-are_ascii (codes "set_range") refl, tt))))
-
-scroll_by_prints : (version : ℕ) (id : ℕ) (dx : ℤ) (dy : ℤ) → command_in_range version (ScrollBy (record { id = id; dx = dx; dy = dy })) ≡ true
-    → Prints (scroll_by_data id dx dy)
-unfolding scroll_by_data number_data
-scroll_by_prints version id dx dy all =
-    let h0 = left _ _ (left _ _ all) in
-    let h1 = right _ _ (left _ _ all) in
-    let h2 = right _ _ all in
-    members_print (member (codes "dx") (int_data dx) (member (codes "dy") (int_data dy) (member (codes "id") (number_data id) (member (codes "op") (string (codes "scroll_by")) no_members)))) refl refl
-    (signed_prints dx h1, (signed_prints dy h2, (u32_prints id h0, (IsUtf8-are_ascii (codes "scroll_by") refl, tt))))
-
-scroll_to_prints : (version : ℕ) (id : ℕ) (x : ℕ) (y : ℕ) → command_in_range version (ScrollTo (record { id = id; x = x; y = y })) ≡ true
-    → Prints (scroll_to_data id x y)
-unfolding scroll_to_data number_data
-scroll_to_prints version id x y all =
-    let h0 = left _ _ (left _ _ all) in
-    let h1 = right _ _ (left _ _ all) in
-    let h2 = right _ _ all in
-    members_print (member (codes "id") (number_data id) (member (codes "op") (string (codes "scroll_to")) (member (codes "x") (number_data x) (member (codes "y") (number_data y) no_members)))) refl refl
-    (u32_prints id h0, (IsUtf8-are_ascii (codes "scroll_to") refl, (u32_prints x h1, (u32_prints y h2, tt))))
-
-add_layer_prints : (version : ℕ) (id : ℕ) (at : ℕ) (transform : ℕ) (clip : ℕ) (effect : ℕ) (w : ℕ) (h : ℕ) (colour : Parts) → command_in_range version (AddLayer (record { id = id; at = at; transform = transform; clip = clip; effect = effect; w = w; h = h; colour = colour })) ≡ true
-    → Prints (add_layer_data id at transform clip effect w h colour)
-unfolding add_layer_data colour_data number_data
-add_layer_prints version id at transform clip effect w h colour all =
-    let h0 = left _ _ (left _ _ (left _ _ (left _ _ (left _ _ (left _ _ (left _ _ all)))))) in
-    let h1 = right _ _ (left _ _ (left _ _ (left _ _ (left _ _ (left _ _ (left _ _ all)))))) in
-    let h2 = right _ _ (left _ _ (left _ _ (left _ _ (left _ _ (left _ _ all))))) in
-    let h3 = right _ _ (left _ _ (left _ _ (left _ _ (left _ _ all)))) in
-    let h4 = right _ _ (left _ _ (left _ _ (left _ _ all))) in
-    let h5 = right _ _ (left _ _ (left _ _ all)) in
-    let h6 = right _ _ (left _ _ all) in
-    let h7 = right _ _ all in
-    members_print (member (codes "at") (number_data at) (member (codes "clip") (number_data clip) (member (codes "colour") (colour_data colour) (member (codes "effect") (number_data effect) (member (codes "h") (number_data h) (member (codes "id") (number_data id) (member (codes "op") (string (codes "add_layer")) (member (codes "transform") (number_data transform) (member (codes "w") (number_data w) no_members))))))))) refl refl
-    (u32_prints at h1, (u32_prints clip h3, (colour_prints colour h7, (u32_prints effect h4, (u32_prints h h6, (u32_prints id h0, (IsUtf8-are_ascii (codes "add_layer") refl, (u32_prints transform h2, (u32_prints w h5, tt)))))))))
-
-remove_layer_prints : (version : ℕ) (id : ℕ) → command_in_range version (RemoveLayer (record { id = id })) ≡ true
-    → Prints (remove_layer_data id)
-unfolding remove_layer_data number_data
-remove_layer_prints version id all =
-    members_print (member (codes "id") (number_data id) (member (codes "op") (string (codes "remove_layer")) no_members)) refl refl
-    (u32_prints id all, (IsUtf8-are_ascii (codes "remove_layer") refl, tt))
-
-resize_layer_prints : (version : ℕ) (id : ℕ) (w : ℕ) (h : ℕ) → command_in_range version (ResizeLayer (record { id = id; w = w; h = h })) ≡ true
-    → Prints (resize_layer_data id w h)
-unfolding resize_layer_data number_data
-resize_layer_prints version id w h all =
-    let h0 = left _ _ (left _ _ all) in
-    let h1 = right _ _ (left _ _ all) in
-    let h2 = right _ _ all in
-    members_print (member (codes "h") (number_data h) (member (codes "id") (number_data id) (member (codes "op") (string (codes "resize_layer")) (member (codes "w") (number_data w) no_members)))) refl refl
-    (u32_prints h h2, (u32_prints id h0, (IsUtf8-are_ascii (codes "resize_layer") refl, (u32_prints w h1, tt))))
-
-set_colour_prints : (version : ℕ) (id : ℕ) (colour : Parts) → command_in_range version (SetColour (record { id = id; colour = colour })) ≡ true
-    → Prints (set_colour_data id colour)
-unfolding set_colour_data colour_data number_data
-set_colour_prints version id colour all =
-    let h0 = left _ _ all in
-    let h1 = right _ _ all in
-    members_print (member (codes "colour") (colour_data colour) (member (codes "id") (number_data id) (member (codes "op") (string (codes "set_colour")) no_members))) refl refl
-    (colour_prints colour h1, (u32_prints id h0, (IsUtf8-are_ascii (codes "set_colour") refl, tt)))
-
-remove_item_prints : (version : ℕ) (layer : ℕ) (at : ℕ) → command_in_range version (RemoveItem (record { layer = layer; at = at })) ≡ true
-    → Prints (remove_item_data layer at)
-unfolding remove_item_data number_data
-remove_item_prints version layer at all =
-    let h0 = left _ _ all in
-    let h1 = right _ _ all in
-    members_print (member (codes "at") (number_data at) (member (codes "layer") (number_data layer) (member (codes "op") (string (codes "remove_item")) no_members))) refl refl
-    (u32_prints at h1, (u32_prints layer h0, (IsUtf8-are_ascii (codes "remove_item") refl, tt)))
-
-move_layer_prints : (version : ℕ) (id : ℕ) (at : ℕ) → command_in_range version (MoveLayer (record { id = id; at = at })) ≡ true
-    → Prints (move_layer_data id at)
-unfolding move_layer_data number_data
-move_layer_prints version id at all =
-    let h0 = left _ _ all in
-    let h1 = right _ _ all in
-    members_print (member (codes "at") (number_data at) (member (codes "id") (number_data id) (member (codes "op") (string (codes "move_layer")) no_members))) refl refl
-    (u32_prints at h1, (u32_prints id h0, (IsUtf8-are_ascii (codes "move_layer") refl, tt)))
-
-set_view_prints : (version : ℕ) (w : ℕ) (h : ℕ) (tile : ℕ) → command_in_range version (SetView (record { w = w; h = h; tile = tile })) ≡ true
-    → Prints (set_view_data w h tile)
-unfolding set_view_data number_data
-set_view_prints version w h tile all =
-    let h0 = right _ _ (left _ _ (left _ _ all)) in
-    let h1 = right _ _ (left _ _ all) in
-    let h2 = right _ _ all in
-    members_print (member (codes "h") (number_data h) (member (codes "op") (string (codes "set_view")) (member (codes "tile") (number_data tile) (member (codes "w") (number_data w) no_members)))) refl refl
-    (u32_prints h h1, (IsUtf8-are_ascii (codes "set_view") refl, (u32_prints tile h2, (u32_prints w h0, tt))))
-
-rect_item_prints : (op : List ℕ) (layer : ℕ) (place : ℕ) (rect : Rect) (colour : Parts) → IsUtf8 op → (is_u32 layer && is_u32 place && (is_rect rect && is_colour colour)) ≡ true → Prints (rect_item_data op layer place rect colour)
-unfolding rect_item_data colour_data number_data
-rect_item_prints op layer place rect colour text all =
-    let h0 = left _ _ (left _ _ all) in
-    let h1 = right _ _ (left _ _ all) in
-    let item_fits = right _ _ all in
-    let h2 = left _ _ item_fits in
-    let h3 = right _ _ item_fits in
-    members_print (member (codes "at") (number_data place) (member (codes "colour") (colour_data colour) (member (codes "layer") (number_data layer) (member (codes "op") (string op) (member (codes "rect") (rect_data rect) no_members))))) refl refl
-    (u32_prints place h1, (colour_prints colour h3, (u32_prints layer h0, (text, (rect_prints rect h2, tt)))))
-
-bitmap_prints : (op : List ℕ) (layer : ℕ) (place : ℕ) (picture : BitmapModel) → IsUtf8 op → (is_u32 layer && is_u32 place && (is_rect picture.rect && is_picture picture.rect picture.pixels)) ≡ true → Prints (bitmap_data op layer place picture)
-unfolding bitmap_data bytes_data number_data
-bitmap_prints op layer place picture text all =
-    let h0 = left _ _ (left _ _ all) in
-    let h1 = right _ _ (left _ _ all) in
-    let item_fits = right _ _ all in
-    let h2 = left _ _ item_fits in
-    let h3 = right _ _ item_fits in
-    members_print (member (codes "at") (number_data place) (member (codes "layer") (number_data layer) (member (codes "op") (string op) (member (codes "pixels") (bytes_data picture.pixels) (member (codes "rect") (rect_data picture.rect) no_members))))) refl refl
-    (u32_prints place h1, (u32_prints layer h0, (text, (pixels_prints picture.rect picture.pixels h3, (rect_prints picture.rect h2, tt)))))
-
-item_prints : (op : List ℕ) (layer place : ℕ) (i : Item) → IsUtf8 op → (is_u32 layer && is_u32 place && item_in_range i) ≡ true → Prints (item_data op layer place i)
-item_prints op layer place (kind.Rect rect colour) text all = rect_item_prints op layer place rect colour text all
-item_prints op layer place (kind.Bitmap picture) text all = bitmap_prints op layer place picture text all
+op_is_ascii : (o : Op) → are_ascii (op_name o) ≡ true
+op_is_ascii op.AddTransform = refl
+op_is_ascii _ = refl
 
 command_prints : (version : ℕ) (c : Command) → command_in_range version c ≡ true → Prints (command_data c)
-command_prints version (AddTransform c) all = add_transform_prints version c.id c.parent c.x c.y c.scroller all
-command_prints version (SetTransform c) all = set_transform_prints version c.id c.x c.y all
-command_prints version (AddClip c) all = add_clip_prints version c.id c.parent c.transform c.rect all
-command_prints version (SetClip c) all = set_clip_prints version c.id c.rect all
-command_prints version (AddEffect c) all = add_effect_prints version c.id c.parent c.opacity all
-command_prints version (SetOpacity c) all = set_opacity_prints version c.id c.opacity all
-command_prints version (AddScroller c) all = add_scroller_prints version c.id c.parent c.max_x c.max_y all
-command_prints version (SetRange c) all = set_range_prints version c.id c.max_x c.max_y all
-command_prints version (ScrollBy c) all = scroll_by_prints version c.id c.dx c.dy all
-command_prints version (ScrollTo c) all = scroll_to_prints version c.id c.x c.y all
-command_prints version (AddLayer c) all = add_layer_prints version c.id c.at c.transform c.clip c.effect c.w c.h c.colour all
-command_prints version (RemoveLayer c) all = remove_layer_prints version c.id all
-command_prints version (ResizeLayer c) all = resize_layer_prints version c.id c.w c.h all
-command_prints version (SetColour c) all = set_colour_prints version c.id c.colour all
-command_prints version (InsertItem c) all = item_prints (codes "insert_item") c.layer c.at c.item (IsUtf8-are_ascii (codes "insert_item") refl) all
-command_prints version (RemoveItem c) all = remove_item_prints version c.layer c.at all
-command_prints version (ReplaceItem c) all = item_prints (codes "replace_item") c.layer c.at c.item (IsUtf8-are_ascii (codes "replace_item") refl) all
-command_prints version (MoveLayer c) all = move_layer_prints version c.id c.at all
-command_prints version (SetView c) all = set_view_prints version c.w c.h c.tile all
+unfolding command_data
+command_prints version c all =
+    let s = shape (op_of c) (values_of c) in
+    members_print (op_members (op_of c) (values_of c)) s.rising s.names
+    (row_prints (is_of_version version (op_of c)) (fields (op_of c)) (values_of c) (member (codes "op") (string (op_name (op_of c))) no_members)
+    (sym (fit_values version c) ∙ all) (IsUtf8-are_ascii (op_name (op_of c)) (op_is_ascii (op_of c)), tt))
 
 scroll_prints : (frames scroller : ℕ) (dx dy : ℤ) → input_in_range frames (Scroll scroller dx dy) ≡ true → Prints (scroll_data scroller dx dy)
 unfolding scroll_data number_data

@@ -1,13 +1,11 @@
 pub mod Faults
 pub mod Ops
 pub mod ItemReading
+pub mod FieldLists
 pub mod CommandReading
 pub mod InputReading
 pub mod Reading
 pub mod Causes
-pub mod NodeValues
-pub mod LayerValues
-pub mod ItemValues
 pub mod CommandValues
 pub mod InputValues
 pub mod ScriptValue

@@ -1,11 +1,14 @@
 //! Scripts as JSON texts: reading one, with the place of its first fault, and its canonical text.
 #![tactic(auto)]
 
+mod command;
 mod fault;
 mod halt;
 mod head;
 pub mod laws;
+mod layers;
 mod limits;
+mod nodes;
 mod op;
 mod print;
 mod read;

@@ -3,35 +3,14 @@
 ghost use Rattle.std.specs.Prelude.{◌≡◌, Some, None, if◌then◌else◌, codes, option_and_then};
 ghost use Rattle.serde_json.specs.Find.{get, as_str};
 ghost use Rattle.serde_json.specs.View.{view};
-ghost use Rattle.script_json.specs.Ops.{node_op_named, layer_op_named, op_named, is_of_version, op_at};
+ghost use Rattle.script_json.specs.Ops.{op_at};
 ghost use Rattle.script_json.specs.InputReading.{input_named, input_op_at};
+ghost use Rattle.page_layers.specs.CommandFields.{op_named};
+ghost use Rattle.model_history.specs.Ranges.{is_of_version};
 
+use page_layers::command::Op;
 use script_fields::FieldFault;
 use serde_json::Value;
-
-/// A command by its name.
-#[derive(Clone, Copy)]
-pub(crate) enum Op {
-    AddTransform,
-    SetTransform,
-    AddClip,
-    SetClip,
-    AddEffect,
-    SetOpacity,
-    AddScroller,
-    SetRange,
-    ScrollBy,
-    ScrollTo,
-    AddLayer,
-    RemoveLayer,
-    ResizeLayer,
-    SetColour,
-    InsertItem,
-    RemoveItem,
-    ReplaceItem,
-    MoveLayer,
-    SetView,
-}
 
 /// An input by its name.
 #[derive(Clone, Copy)]
@@ -41,55 +20,6 @@ pub(crate) enum InputOp {
     Draw,
     Await,
     Settle,
-}
-
-// The command on the nodes of a page that has this name.
-#[tactic(auto, unfolding(crate::specs::Ops::node_op_named))]
-fn node_op_named(name: &str) -> Option<Op>
-    ensures { result ≡ node_op_named name.now }
-{
-    match name {
-        "add_transform" => Some(Op::AddTransform),
-        "set_transform" => Some(Op::SetTransform),
-        "add_clip" => Some(Op::AddClip),
-        "set_clip" => Some(Op::SetClip),
-        "add_effect" => Some(Op::AddEffect),
-        "set_opacity" => Some(Op::SetOpacity),
-        "add_scroller" => Some(Op::AddScroller),
-        "set_range" => Some(Op::SetRange),
-        "scroll_by" => Some(Op::ScrollBy),
-        "scroll_to" => Some(Op::ScrollTo),
-        _ => None,
-    }
-}
-
-// The command on the layers of a page, their items or the view that has this name.
-#[tactic(auto, unfolding(crate::specs::Ops::layer_op_named))]
-fn layer_op_named(name: &str) -> Option<Op>
-    ensures { result ≡ layer_op_named name.now }
-{
-    match name {
-        "add_layer" => Some(Op::AddLayer),
-        "remove_layer" => Some(Op::RemoveLayer),
-        "resize_layer" => Some(Op::ResizeLayer),
-        "set_colour" => Some(Op::SetColour),
-        "insert_item" => Some(Op::InsertItem),
-        "remove_item" => Some(Op::RemoveItem),
-        "replace_item" => Some(Op::ReplaceItem),
-        "move_layer" => Some(Op::MoveLayer),
-        "set_view" => Some(Op::SetView),
-        _ => None,
-    }
-}
-
-#[tactic(auto, unfolding(crate::specs::Ops::op_named))]
-fn op_named(name: &str) -> Option<Op>
-    ensures { result ≡ op_named name.now }
-{
-    match node_op_named(name) {
-        Some(op) => Some(op),
-        None => layer_op_named(name),
-    }
 }
 
 // Whether a version has this command.
@@ -106,7 +36,7 @@ fn is_of_version(version: u32, op: Op) -> bool
 fn find_op(version: u32, value: &Value) -> Option<Op>
     ensures { result ≡ option_and_then (λ o. if is_of_version version o then Some o else None) (option_and_then op_named (option_and_then as_str (get (codes "op") (view value.now)))) }
 {
-    let op = op_named(value.get("op")?.as_str()?)?;
+    let op = Op::named(value.get("op")?.as_str()?)?;
     if is_of_version(version, op) {
         Some(op)
     } else {
@@ -114,7 +44,7 @@ fn find_op(version: u32, value: &Value) -> Option<Op>
     }
 }
 
-/// The command that a member `op` names; a fault of field 0 where the version has no such.
+/// The command that a member `op` names; a fault of field 0 if the version has no such.
 #[tactic(auto, unfolding(crate::specs::Ops::op_at))]
 pub(crate) fn command_op(version: u32, value: &Value) -> Result<Op, FieldFault>
     ensures { result ≡ op_at version (view value.now) }
@@ -143,7 +73,7 @@ fn find_input_op(value: &Value) -> Option<InputOp>
     input_named(value.get("op")?.as_str()?)
 }
 
-/// The input that a member `op` names; a fault of field 0 where there is none.
+/// The input that a member `op` names; a fault of field 0 if there is none.
 #[tactic(auto, unfolding(crate::specs::InputReading::input_op_at))]
 pub(crate) fn input_op(value: &Value) -> Result<InputOp, FieldFault>
     ensures { result ≡ input_op_at (view value.now) }

@@ -1,10 +1,8 @@
 //! Scripts as JSON texts.
 
 mod commands;
-mod field;
+pub(crate) mod field;
 mod inputs;
-mod items;
-mod layers;
-mod nodes;
-mod object;
+pub(crate) mod items;
+pub(crate) mod object;
 pub(crate) mod parts;

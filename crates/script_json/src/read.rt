@@ -2,8 +2,6 @@
 
 pub(crate) mod commands;
 pub(crate) mod inputs;
-mod items;
-mod layers;
-mod nodes;
+pub(crate) mod items;
 pub(crate) mod parts;
 mod stream;

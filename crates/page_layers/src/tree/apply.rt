@@ -1,6 +1,7 @@
 //! Applying commands.
 
 ghost use Rattle.page_layers.specs.Outcomes.{Outcome};
+ghost use Rattle.page_layers.specs.inner.Tested.{Promised};
 
 use super::LayerTree;
 use crate::command::Command;
@@ -19,6 +20,13 @@ impl LayerTree {
     {
         // This read tells the proof what the type keeps; it does nothing when it runs.
         let _ = &self.view;
+        self.dispatch(command)
+    }
+
+    // Applies a command by the method of its name.
+    fn dispatch(&mut self, command: &Command) -> Result<Changes, EditError>
+        ensures { Promised self.old command.now self.new result }
+    {
         match command {
             Command::AddTransform(fields) => self.add_transform(fields),
             Command::SetTransform(fields) => self.set_transform(fields),

@@ -3,7 +3,7 @@
 ghost use Rattle.std.specs.Prelude.{◌≡◌, ◌++◌, OnOk};
 ghost use Rattle.json.specs.Print.{escape};
 ghost use Rattle.serde_json.specs.Written.{compact_text};
-ghost use Rattle.script_json.specs.ItemValues.{rect_item_data, bitmap_data, item_data};
+ghost use Rattle.script_json.specs.inner.ItemValues.{rect_item_data, bitmap_data, item_data};
 
 use super::field::Field;
 use super::object::push_object;
@@ -13,7 +13,7 @@ use pixel::Colour;
 use std::alloc::AllocError;
 
 // Adds a command that puts in an item of one colour.
-#[tactic(auto, unfolding(crate::specs::ItemValues::rect_item_data, json::specs::Print::escape_byte))]
+#[tactic(auto, unfolding(crate::specs::inner::ItemValues::rect_item_data, json::specs::Print::escape_byte))]
 fn push_rect_item(
     text: &mut Vec<u8>,
     op: &str,
@@ -38,7 +38,7 @@ fn push_rect_item(
 }
 
 // Adds a command that puts in a bitmap.
-#[tactic(auto, unfolding(crate::specs::ItemValues::bitmap_data, json::specs::Print::escape_byte))]
+#[tactic(auto, unfolding(crate::specs::inner::ItemValues::bitmap_data, json::specs::Print::escape_byte))]
 fn push_bitmap_item<'a>(
     text: &mut Vec<u8>,
     op: &'a str,

@@ -3,55 +3,15 @@
 ghost use Rattle.std.specs.Prelude.{◌≡◌, ◌<◌, ◌+◌, ◌≤◌, length, map, nat_lt, true, IfOk, vec_len};
 ghost use Rattle.model_history.specs.Ranges.{are_short};
 ghost use Rattle.serde_json.specs.View.{view, items_view};
-ghost use Rattle.script_fields.specs.Faults.{Gives as GivesField};
 ghost use Rattle.script_json.specs.Faults.{GivesPart, placed};
-ghost use Rattle.script_json.specs.CommandReading.{fields_at, command_at, commands_at, frame_at, frames_at};
+ghost use Rattle.script_json.specs.CommandReading.{command_at, commands_at, frame_at, frames_at};
 
-use super::{items, layers, nodes};
+use crate::command::read_command;
 use crate::fault::{ShapeFault, Stop};
-use crate::op::{self, Op};
 use page_layers::Command;
-use script_fields::{Trouble, fields};
+use script_fields::Trouble;
 use serde_json::Value;
 use std::alloc::{AllocError, Global};
-
-// The fields of a command with this name.
-fn fields_of(alloc: Global, op: Op, value: &Value) -> Result<Command, Trouble>
-    ensures { GivesField (λ x. x) result (fields_at op (view value.now)) }
-{
-    let command = match op {
-        Op::InsertItem => return items::insert_item(alloc, value),
-        Op::ReplaceItem => return items::replace_item(alloc, value),
-        Op::AddTransform => nodes::add_transform(value),
-        Op::SetTransform => nodes::set_transform(value),
-        Op::AddClip => nodes::add_clip(value),
-        Op::SetClip => nodes::set_clip(value),
-        Op::AddEffect => nodes::add_effect(value),
-        Op::SetOpacity => nodes::set_opacity(value),
-        Op::AddScroller => nodes::add_scroller(value),
-        Op::SetRange => nodes::set_range(value),
-        Op::ScrollBy => nodes::scroll_by(value),
-        Op::ScrollTo => nodes::scroll_to(value),
-        Op::AddLayer => layers::add_layer(value),
-        Op::RemoveLayer => layers::remove_layer(value),
-        Op::ResizeLayer => layers::resize_layer(value),
-        Op::SetColour => layers::set_colour(value),
-        Op::RemoveItem => layers::remove_item(value),
-        Op::MoveLayer => layers::move_layer(value),
-        Op::SetView => layers::set_view(value),
-    };
-    Ok(command?)
-}
-
-// A command: an object, its name, its fields.
-#[tactic(auto, unfolding(crate::specs::CommandReading::command_at))]
-fn command(alloc: Global, version: u32, value: &Value) -> Result<Command, Trouble>
-    ensures { GivesField (λ x. x) result (command_at version (view value.now)) }
-{
-    fields::object(value)?;
-    let op = op::command_op(version, value)?;
-    fields_of(alloc, op, value)
-}
 
 /// The command at a place of a main frame.
 pub(super) fn placed_command(
@@ -63,7 +23,7 @@ pub(super) fn placed_command(
 ) -> Result<Command, Stop>
     ensures { GivesPart (λ x. x) result (placed list index (command_at version (view value.now))) }
 {
-    match command(alloc, version, value) {
+    match read_command(alloc, version, value) {
         Ok(command) => Ok(command),
         Err(Trouble::Fault(fault)) => Err(Stop::Fault(ShapeFault {
             list,

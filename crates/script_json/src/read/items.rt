@@ -4,12 +4,12 @@ ghost use Rattle.std.specs.Prelude.{◌≡◌, IfOk};
 ghost use Rattle.serde_json.specs.View.{view};
 ghost use Rattle.script_fields.specs.Faults.{Gives};
 ghost use Rattle.script_json.specs.ItemReading.{if_picture, pixels_form, paint_at};
-ghost use Rattle.script_json.specs.declared.op.Op.TheVariants as named;
+ghost use Rattle.page_layers.specs.declared.command.Op.TheVariants as named;
 ghost use Rattle.script_json.specs.CommandReading.{fields_at};
 
 use geom::Rect;
 use page_display_list::Item;
-use page_layers::{Command, InsertItem, ReplaceItem};
+use page_layers::command::{Command, InsertItem, ReplaceItem};
 use script_fields::{FieldFault, Trouble, fields, forms};
 use serde_json::Value;
 use std::alloc::{AllocError, Global};
