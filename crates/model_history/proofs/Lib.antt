@@ -42,4 +42,8 @@ pub mod Gathers
 pub mod FrameTells
 pub mod PullBounds
 pub mod ListedStamps
+pub mod UsedInputs
+pub mod AnsweredFrames
+pub mod Grown
+pub mod GrownSteps
 mod SharedLists

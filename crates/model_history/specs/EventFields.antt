@@ -56,6 +56,12 @@ abbrev pub aborts : Event → Option ℕ
 aborts (event.Abort k) = Some k
 aborts _ = None
 
+-- the frame that it answers: the main side has taken its commands, and says whether they changed something
+abbrev pub answers : Event → Option ℕ
+answers (event.Ready k) = Some k
+answers (event.Abort k) = Some k
+answers _ = None
+
 -- the frame that it commits
 abbrev pub commits : Event → Option ℕ
 commits (event.Commit k) = Some k

@@ -15,6 +15,7 @@ pub mod Tiles
 pub mod Ranking
 pub mod Due
 pub mod Legal
+pub mod Growth
 pub mod Lockstep
 pub mod ScrollLaws
 pub mod FrameLaws

@@ -8,7 +8,11 @@ use Rattle.page_display_list.specs.Bitmaps.{has_sides, byte_count}
 use Rattle.page_display_list.specs.declared.item.Item.{Item}
 use Rattle.page_display_list.specs.declared.item.Item.TheVariants as item
 use Rattle.page_layers.specs.declared.command.Command.{Command}
-use Rattle.page_layers.specs.declared.command.Command.TheVariants.{AddTransform, SetTransform, AddClip, SetClip, AddEffect, SetOpacity, AddScroller, SetRange, ScrollBy, ScrollTo, AddLayer, RemoveLayer, ResizeLayer, SetColour, InsertItem, RemoveItem, ReplaceItem, MoveLayer, SetView}
+use Rattle.page_layers.specs.declared.command.Op.{Op}
+use Rattle.page_layers.specs.declared.command.Op.TheVariants as op
+use Rattle.page_layers.specs.FieldForms as form
+use Rattle.page_layers.specs.FieldForms.{Form, Field, Held, Row}
+use Rattle.page_layers.specs.CommandFields.{fields, op_of, values_of}
 use Rattle.model_history.specs.declared.input.Input.{Input}
 use Rattle.model_history.specs.declared.input.Input.TheVariants.{Scroll, Wheel, Draw, Await, Settle}
 use Rattle.model_history.specs.Scripts.{ScriptModel}
@@ -50,28 +54,27 @@ abbrev pub item_in_range : Item → Bool
 item_in_range (item.Rect rect colour) = is_rect rect && is_colour colour
 item_in_range (item.Bitmap picture) = is_rect picture.rect && is_picture picture.rect picture.pixels
 
--- a command whose numbers fit 32 bits, of a script of this version: `set_view` is of version 2 alone
+-- whether a version has this command: `set_view` is of version 2 alone
+abbrev pub is_of_version : ℕ → Op → Bool
+is_of_version version op.SetView = version == 2
+is_of_version version _ = true
+
+-- a value in the range of its form
+abbrev pub fits : (f : Form) → Held f → Bool
+fits form.whole n = is_u32 n
+fits form.signed z = is_signed z
+fits form.rect r = is_rect r
+fits form.colour c = is_colour c
+fits form.item i = item_in_range i
+
+-- whether this holds, and each value is in the range of its form
+abbrev pub all_fit : Bool → (fs : List Field) → Row fs → Bool
+all_fit so_far [] row = so_far
+all_fit so_far (f ∷ fs) row = all_fit (so_far && fits f.form row.0) fs row.1
+
+-- a command whose numbers fit 32 bits, of a script of this version
 abbrev pub command_in_range : ℕ → Command → Bool
-command_in_range version (AddTransform c) = is_u32 c.id && is_u32 c.parent && is_signed c.x && is_signed c.y && is_u32 c.scroller
-command_in_range version (SetTransform c) = is_u32 c.id && is_signed c.x && is_signed c.y
-command_in_range version (AddClip c) = is_u32 c.id && is_u32 c.parent && is_u32 c.transform && is_rect c.rect
-command_in_range version (SetClip c) = is_u32 c.id && is_rect c.rect
-command_in_range version (AddEffect c) = is_u32 c.id && is_u32 c.parent && is_u32 c.opacity
-command_in_range version (SetOpacity c) = is_u32 c.id && is_u32 c.opacity
-command_in_range version (AddScroller c) = is_u32 c.id && is_u32 c.parent && is_u32 c.max_x && is_u32 c.max_y
-command_in_range version (SetRange c) = is_u32 c.id && is_u32 c.max_x && is_u32 c.max_y
-command_in_range version (ScrollBy c) = is_u32 c.id && is_signed c.dx && is_signed c.dy
-command_in_range version (ScrollTo c) = is_u32 c.id && is_u32 c.x && is_u32 c.y
-command_in_range version (AddLayer c) =
-    is_u32 c.id && is_u32 c.at && is_u32 c.transform && is_u32 c.clip && is_u32 c.effect && is_u32 c.w && is_u32 c.h && is_colour c.colour
-command_in_range version (RemoveLayer c) = is_u32 c.id
-command_in_range version (ResizeLayer c) = is_u32 c.id && is_u32 c.w && is_u32 c.h
-command_in_range version (SetColour c) = is_u32 c.id && is_colour c.colour
-command_in_range version (InsertItem c) = is_u32 c.layer && is_u32 c.at && item_in_range c.item
-command_in_range version (RemoveItem c) = is_u32 c.layer && is_u32 c.at
-command_in_range version (ReplaceItem c) = is_u32 c.layer && is_u32 c.at && item_in_range c.item
-command_in_range version (MoveLayer c) = is_u32 c.id && is_u32 c.at
-command_in_range version (SetView c) = (version == 2) && is_u32 c.w && is_u32 c.h && is_u32 c.tile
+command_in_range version c = all_fit (is_of_version version (op_of c)) (fields (op_of c)) (values_of c)
 
 -- one axis of a scroll or a wheel: at most 2^20 either way
 abbrev pub is_amount : ℤ → Bool

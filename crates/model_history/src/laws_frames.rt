@@ -1,12 +1,12 @@
 //! Laws of legal histories: what may come next, and how main frames go. They are contracts of
 //! functions that do nothing, over pasts, which list the newest entry first.
 
-ghost use Rattle.std.specs.Prelude.{◌≡◌, ◌⊎◌, ℕ, ◌+◌, ◌<◌, ◌≤◌, nat_lt, true, false, List, ◌++◌, is_some, Some};
+ghost use Rattle.std.specs.Prelude.{◌≡◌, ◌⊎◌, ℕ, suc, ◌+◌, ◌<◌, ◌≤◌, nat_lt, true, false, List, ◌++◌, is_some, Some};
 ghost use Rattle.model_states.specs.declared.kind.Kind.TheVariants as kind;
 ghost use Rattle.model_states.specs.Kinds.{is_main_idle, is_sent};
 ghost use Rattle.model_history.specs.Scripts.{ScriptModel};
 ghost use Rattle.model_history.specs.declared.history.Entry.{Entry};
-ghost use Rattle.model_history.specs.EventFields.{kind_of, sends, commits, aborts, activates};
+ghost use Rattle.model_history.specs.EventFields.{kind_of, sends, answers, commits, aborts, activates};
 ghost use Rattle.model_history.specs.Scans.{was_named, newest, counted};
 ghost use Rattle.model_history.specs.Frames.{has_frame_ended, changes, pulls_of, active, pending, up_to};
 ghost use Rattle.model_history.specs.Legal.{sched, Next, Legal, IsLegal};
@@ -34,7 +34,7 @@ pub fn beginnings_are_legal()
 {}
 
 /// After every legal past the frames that were sent are the first ones. Each of them has ended but the
-/// last while it is in flight, in one way: by a commit where it changes something, else by an abort. Of
+/// last while it is in flight, in one way: by a commit if it changes something, else by an abort. Of
 /// the commits some were activated, up to the active one; one that was not is pending, and later.
 pub fn frames_take_their_course()
     ensures sent { (s : ScriptModel) (workers : ℕ) (h : List Entry) (k : ℕ) → Legal s workers h → was_named sends h k ≡ nat_lt k (counted sends h) }
@@ -46,4 +46,13 @@ pub fn frames_take_their_course()
     ensures pending { (s : ScriptModel) (workers : ℕ) (h : List Entry) (k : ℕ) → Legal s workers h → pending h ≡ Some k → (was_named commits h k ≡ true) × (was_named activates h k ≡ false) × (up_to (active h) ≤ k) }
     ensures not_activated { (s : ScriptModel) (workers : ℕ) (h : List Entry) (k : ℕ) → Legal s workers h → was_named commits h k ≡ true → (was_named activates h k ≡ true) ⊎ (pending h ≡ Some k) }
     ensures state { (s : ScriptModel) (workers : ℕ) (h : List Entry) → Legal s workers h → (sched h).has_pending ≡ is_some (pending h) }
+{}
+
+/// After every legal past all main frames that were sent are answered, but for the last while it waits
+/// for its answer. The frames up to the active commit are among them, and those up to the pending one.
+pub fn sent_frames_are_answered()
+    ensures all { (s : ScriptModel) (workers : ℕ) (h : List Entry) → Legal s workers h → is_sent (sched h).main_state ≡ false → counted answers h ≡ counted sends h }
+    ensures all_but_one { (s : ScriptModel) (workers : ℕ) (h : List Entry) → Legal s workers h → is_sent (sched h).main_state ≡ true → suc (counted answers h) ≡ counted sends h }
+    ensures active { (s : ScriptModel) (workers : ℕ) (h : List Entry) → Legal s workers h → up_to (active h) ≤ counted answers h }
+    ensures pending { (s : ScriptModel) (workers : ℕ) (h : List Entry) → Legal s workers h → up_to (pending h) ≤ counted answers h }
 {}

@@ -13,6 +13,7 @@ mod frame;
 mod history;
 mod input;
 mod laws_frames;
+mod laws_growth;
 mod laws_lockstep;
 mod laws_pages;
 mod laws_scrolls;
@@ -28,7 +29,14 @@ pub use event::Event;
 pub use frame::{apply_frame, changes_something, take_frame};
 pub use history::{Entry, History};
 pub use input::Input;
-pub use laws_frames::{actors_are_few, beginnings_are_legal, frames_take_their_course, one_answer};
+pub use laws_frames::{
+    actors_are_few, beginnings_are_legal, frames_take_their_course, one_answer,
+    sent_frames_are_answered,
+};
+pub use laws_growth::{
+    a_main_frame_may_follow, an_input_may_follow, commands_may_follow_their_frame,
+    what_was_legal_stays_legal,
+};
 pub use laws_lockstep::lockstep_is_one;
 pub use laws_pages::{
     accepted_commands_are_taken, main_values_are_in_range, pages_depend_on_earlier_pulls,

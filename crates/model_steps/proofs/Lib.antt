@@ -5,6 +5,7 @@ pub mod StandingFacts
 pub mod TreesAfter
 pub mod ListedMoves
 pub mod KeysShown
+pub mod GrownKeys
 pub mod ReadyAfter
 pub mod SameKeys
 pub mod FrameLists

@@ -16,7 +16,7 @@ pub use laws_choice::{
     rebuilt_choices_are_alike, sends_leave_the_choice, trees_and_keys_make_the_choice,
 };
 pub use laws_commits::{commits_list_what_changed, commits_step_the_stamps};
-pub use laws_tiles::{layers_show_their_keys, ready_keys_were_ready};
+pub use laws_tiles::{keys_stay_shown, layers_show_their_keys, ready_keys_were_ready};
 pub use laws_values::{
     activations_list_the_clamps, sends_list_what_is_unheard, values_tell_the_offsets,
 };
