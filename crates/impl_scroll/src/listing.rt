@@ -31,14 +31,14 @@ fn is_zero(z: i64) -> bool
     z == 0
 }
 
-// Whether a move is one of (0, 0).
-fn is_still(one: Move) -> bool
+/// Whether a move is one of (0, 0).
+pub(crate) fn is_still(one: Move) -> bool
     ensures { result ≡ axes.is_still one }
 {
     is_zero(one.dx) && is_zero(one.dy)
 }
 
-// Adds a move at the end where it is not one of (0, 0). An error means out of memory.
+// Adds a move at the end if it is not one of (0, 0). An error means out of memory.
 fn push_moving(moves: &mut Moves, one: Move) -> Result<(), AllocError>
     ensures { OnOk result (moves.new ≡ moves.old ++ unless_still one) }
 {
@@ -108,7 +108,7 @@ fn clamp_along(outright: &[u32], page: &LayerTree, row: &Row, axis: Axis) -> i64
     )
 }
 
-// How far an activation moves a scroller; not at all where the page lacks it.
+// How far an activation moves a scroller; not at all if the page lacks it.
 fn clamp_move(outright: &[u32], page: &LayerTree, row: &Row) -> Move
     requires x { IsBounded row.now.x }
     requires y { IsBounded row.now.y }
@@ -129,7 +129,7 @@ fn clamp_move(outright: &[u32], page: &LayerTree, row: &Row) -> Move
     }
 }
 
-/// How far an activation of a page moves each of its scrollers, where its commit sets these outright. An
+/// How far an activation of a page moves each of its scrollers, if its commit sets these outright. An
 /// error means out of memory.
 pub(crate) fn clamp_moves(
     alloc: Global,

@@ -3,7 +3,8 @@ use Rattle.std.specs.Prelude.{◌≡◌, ℕ, ◌<◌, ◌==◌, nat_lt, pos, tr
 use Rattle.model_states.specs.declared.Synced.{Synced}
 use Rattle.model_states.specs.Table as table
 use Rattle.model_states.specs.Bounds.{IsBoundedNumber, IsBounded}
-use Rattle.page_layers.specs.Axes.{Axis, across, down, amount_in}
+use Rattle.page_layers.specs.Axes.{Axis, across, down, amount_in, is_still}
+use Rattle.page_layers.specs.declared.moves.Move.{Move}
 use Rattle.page_layers.specs.Scrollers.{main_value}
 use Rattle.impl_scroll.specs.declared.row.Row.{Row}
 use Rattle.impl_scroll.specs.declared.steps.ValueStep.{ValueStep}
@@ -48,6 +49,10 @@ AreRising (r ∷ rs) = AllAbove r.scroller rs × AreRising rs
 abbrev pub with_row : ℕ → List Row → List Row
 with_row n [] = row_at [] n ∷ []
 with_row n (r ∷ rs) = cond (nat_lt r.scroller n) (r ∷ with_row n rs) (cond (r.scroller == n) (r ∷ rs) (row_at [] n ∷ r ∷ rs))
+
+-- the scroller of a move; none if the move is one of (0, 0)
+abbrev pub scroller_moved : Move → List ℕ
+scroller_moved m = cond (is_still m) [] (m.scroller ∷ [])
 
 -- each of these scrollers has a row
 abbrev pub Covers : List ℕ → List Row → Type 0
