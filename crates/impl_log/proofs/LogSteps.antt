@@ -18,13 +18,14 @@ use Rattle.model_history.proofs.BoolFacts.{and_left, and_right, not_true}
 use Rattle.model_history.proofs.DueFacts.{entry}
 use Rattle.model_history.proofs.DueRows.{MayAsk, due_row}
 use Rattle.model_history.proofs.RangeBounds.{few_frames, sent_few}
+use Rattle.model_history.proofs.UsedInputs.{uses_few}
 use Rattle.impl_log.specs.declared.progress.Progress.{Progress}
 use Rattle.impl_log.specs.declared.input_places.InputPlaces.{InputPlaces}
 use Rattle.impl_log.specs.Runs.{is_kept, is_plain_kind}
 use Rattle.impl_log.specs.Kept.{KeptEntries, before_input, forgettable}
 use Rattle.impl_log.specs.inner.Steps.{placed, stepped}
 use Rattle.impl_log.specs.inner.Logs.{IsLogOf, MayStep}
-use Rattle.impl_log.proofs.ShortRuns.{uses_few, in_flight_few}
+use Rattle.impl_log.proofs.ShortRuns.{in_flight_few}
 use Rattle.impl_log.proofs.ProgressSteps.{progress_step, one_fewer}
 use Rattle.impl_log.proofs.Inputs.{few_inputs}
 use Rattle.impl_log.proofs.Forgetting.{newest_placed, older_placed, still_forgettable}

@@ -4,7 +4,7 @@ ghost use Rattle.std.specs.Prelude.{◌≡◌, ◌+◌, ◌-◌, ◌<◌, ◌≤
 ghost use Rattle.std.specs.VecDeque.{deque_len, deque_capacity};
 
 use ghost_list::GhostList;
-use model_history::Entry;
+use model_history::{Entry, Event};
 use std::alloc::{AllocError, Global};
 use std::collections::VecDeque;
 use std::marker::Model;
@@ -15,11 +15,14 @@ use std::marker::Model;
 /// Contracts see all entries, forgotten ones too, how many of them were forgotten, and how many more the history can
 /// take without asking for memory: its spare.
 pub struct KeptHistory {
-    /// what was forgotten
+    /// What was forgotten.
     gone: GhostList<Entry>,
-    /// how many entries that is, and so the place of the first one that is kept
+    /// How many entries that is, and so the place of the first one that is kept.
     first: usize,
     kept: VecDeque<Entry>,
+    /// How many tile keys the events of `kept` list. Few events list any, but one may list a million. No clause speaks
+    /// of it.
+    keys: usize,
 }
 
 impl Model for KeptHistory {
@@ -41,7 +44,17 @@ impl Drop for KeptHistory {
             gone: _,
             first: _,
             kept: _,
+            keys: _,
         } = self;
+    }
+}
+
+// How many tile keys an event lists: those that a draw missed, or that were evicted for a tile.
+fn key_count(event: &Event) -> usize {
+    match event {
+        Event::Draw { missing, .. } => missing.len(),
+        Event::Start { evicted, .. } => evicted.len(),
+        _ => 0,
     }
 }
 
@@ -55,10 +68,11 @@ impl KeptHistory {
             gone: GhostList::new(),
             first: 0,
             kept: VecDeque::new(alloc),
+            keys: 0,
         }
     }
 
-    /// Makes room for `n` entries. An error means out of memory, which is also so where there would be 2^64 entries.
+    /// Makes room for `n` entries. An error means out of memory, which is also so if there would be 2^64 entries.
     pub(crate) fn reserve(&mut self, n: usize) -> Result<(), AllocError>
         ensures room { OnOk result (n ≤ self.new.spare) }
         ensures entries { self.new.entries ≡ self.old.entries }
@@ -78,6 +92,7 @@ impl KeptHistory {
         ensures first { self.new.first ≡ self.old.first }
         ensures spare { self.new.spare + 1 ≡ self.old.spare }
     {
+        self.keys = self.keys.saturating_add(key_count(&entry.event));
         self.kept.push_back_reserved(entry);
     }
 
@@ -91,6 +106,7 @@ impl KeptHistory {
         let Some(entry) = self.kept.pop_front() else {
             unreachable!()
         };
+        self.keys = self.keys.saturating_sub(key_count(&entry.event));
         self.gone = self.gone.and(&entry);
         self.first += 1;
     }
@@ -105,6 +121,11 @@ impl KeptHistory {
         while self.first < place {
             self.forget_one();
         }
+    }
+
+    /// How many tile keys the entries that are kept list.
+    pub(crate) fn keys(&self) -> usize {
+        self.keys
     }
 
     /// How many entries there are, forgotten ones too.
@@ -130,7 +151,7 @@ impl KeptHistory {
         &self.kept[at - self.first]
     }
 
-    /// The entry at a place; None exactly where it was forgotten, or there is none yet.
+    /// The entry at a place; None exactly if it was forgotten, or there is none yet.
     pub fn get(&self, at: usize) -> Option<&Entry>
         ensures { MatchOption result ((at < self.now.first) ⊎ (length self.now.entries ≤ at)) (λ e. slice_get self.now.entries at ≡ Some e.now) }
     {

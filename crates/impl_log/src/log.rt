@@ -24,8 +24,12 @@ use std::alloc::{AllocError, Global};
 use std::marker::Model;
 use std::sync::Arc;
 
-// How many entries are forgotten at a time, at least.
+// How many entries may be forgotten before any are.
 const MANY: usize = 4096;
+
+// How many tile keys the kept entries may list before those that may be forgotten are, however few these are. A key has
+// 16 bytes, so this is a mebibyte.
+const MANY_KEYS: usize = 65_536;
 
 /// The history of a run of a script, with how far the run has come. By its type it is legal: each entry
 /// is the one of its kind and actor that might come after those before it.
@@ -64,7 +68,7 @@ impl Drop for Log {
     }
 }
 
-// An event where a condition holds.
+// An event if a condition holds.
 fn on_if(holds: bool, event: Event) -> Option<Event>
     ensures { result ≡ dues.on_if holds event }
 {
@@ -155,13 +159,14 @@ impl Log {
         self.workers
     }
 
-    /// Forgets the entries that came before the input before the newest one, once these are many. The run stays as it
-    /// is.
+    /// Forgets the entries that came before the input before the newest one, once these are many or the kept entries
+    /// list many tiles. The run stays as it is.
     pub fn forget(&mut self)
         ensures { self.new ≡ self.old }
     {
         let place = self.places.older;
-        if place.saturating_sub(self.history.first()) >= MANY {
+        let many = place.saturating_sub(self.history.first()) >= MANY;
+        if many || self.history.keys() >= MANY_KEYS {
             self.history.forget(place);
         }
     }
@@ -208,7 +213,7 @@ impl Log {
         self.progress.inputs
     }
 
-    /// The next input; None exactly where all are used.
+    /// The next input; None exactly if all are used.
     pub fn input_now(&self) -> Option<Input>
         ensures { result ≡ dues.input_now self.now.script (past self.now) }
     {
@@ -261,7 +266,7 @@ impl Log {
         }
     }
 
-    // The beginning of an impl frame for a main frame alone, where no draw is next and a frame is left.
+    // The beginning of an impl frame for a main frame alone, if no draw is next and a frame is left.
     fn begin_plain(&self) -> Option<Event>
         ensures { result ≡ dues.on_if (not (dues.asks_draw (dues.input_now self.now.script (past self.now))) && frames.is_left self.now.script (past self.now)) event.BeginPlain }
     {
@@ -270,7 +275,7 @@ impl Log {
         on_if(!draw && left, Event::BeginPlain)
     }
 
-    // The end of an await, where its frame has ended and no commit up to it is pending.
+    // The end of an await, if its frame has ended and no commit up to it is pending.
     fn await_over(&self) -> Option<Event>
         ensures { result ≡ dues.due_await (past self.now) (dues.next_input (past self.now)) (dues.input_now self.now.script (past self.now)) }
     {
@@ -285,7 +290,7 @@ impl Log {
         }
     }
 
-    // The draw that is skipped, where nothing is active.
+    // The draw that is skipped, if nothing is active.
     fn skip(&self) -> Option<Event>
         ensures { result ≡ dues.due_skip (past self.now) (scans.newest begins (past self.now)) }
     {
@@ -295,7 +300,7 @@ impl Log {
         }
     }
 
-    // The end, where all inputs are used, no main frame is left and nothing is in flight.
+    // The end, if all inputs are used, no main frame is left and nothing is in flight.
     fn end(&self) -> Option<Event>
         ensures { result ≡ dues.on_if (dues.is_over self.now.script (past self.now)) event.End }
     {
@@ -327,7 +332,7 @@ impl Log {
 
     /// The event of a plain kind that may come now: one of the compositor that follows from the inputs,
     /// the main frames and the states alone (BeginDraw, BeginPlain, Skip, NoDraw, Finish, Await, End).
-    /// None exactly where there is none.
+    /// None exactly if there is none.
     pub fn plain_now(&self, kind: Kind) -> Option<Event>
         requires { is_plain_kind kind ≡ true }
         ensures { result ≡ now self.now kind 0 }
@@ -339,7 +344,7 @@ impl Log {
         }
     }
 
-    /// Enters the event of a plain kind, where there is one that may come now, and answers whether there
+    /// Enters the event of a plain kind, if there is one that may come now, and answers whether there
     /// was. An error means out of memory, and nothing was entered.
     pub fn enter_plain(&mut self, kind: Kind) -> Result<bool, AllocError>
         requires { is_plain_kind kind ≡ true }

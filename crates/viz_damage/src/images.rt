@@ -15,8 +15,9 @@ use tile_raster::TileImage;
 /// in a processor's cache, as all images of a layer share them, and the rows do not.
 const BYTES_OF_ITEM: usize = 8;
 
-/// Whether two images have one rect and show the same there. Their rows are compared where they are few, else their
-/// display lists, of which items that lie outside the rect are not looked into.
+/// Whether two images have one rect and show the same there. Their rows are compared if they are few, else their
+/// display lists, without the bytes of bitmaps. If the lists do not tell, the rows are compared after all, unless the
+/// stamps say that the picture was made anew: a tile costs its items and its own bytes, whatever its bitmaps have.
 pub(crate) fn are_same_images(a: &TileImage, b: &TileImage) -> bool
     ensures { IsTrue result → AreSameImages a.now b.now }
 {
@@ -27,7 +28,10 @@ pub(crate) fn are_same_images(a: &TileImage, b: &TileImage) -> bool
     if has_few_bytes(a) {
         return a.has_same_rows(b);
     }
-    show_alike(a.list(), b.list(), rect)
+    if show_alike(a.list(), b.list(), rect) {
+        return true;
+    }
+    a.key().stamp == b.key().stamp && a.has_same_rows(b)
 }
 
 // Whether the rows of an image are compared sooner than the items of its list.
@@ -35,7 +39,7 @@ fn has_few_bytes(image: &TileImage) -> bool {
     image.solid().is_some() || image.kept_bytes() / BYTES_OF_ITEM <= image.list().items().len()
 }
 
-// Whether two lists show the same on a rect.
+// Whether two lists show the same on a rect, as far as their items tell without the bytes of bitmaps.
 fn show_alike(a: &DisplayList, b: &DisplayList, rect: Rect) -> bool
     requires { IsSound rect }
     ensures { IsTrue result → ShowAlike rect a.now b.now }
@@ -53,21 +57,19 @@ fn show_alike(a: &DisplayList, b: &DisplayList, rect: Rect) -> bool
     true
 }
 
-// Whether two items paint the same on a rect.
+// Whether two items paint the same on a rect: one rect of one colour does, and so do items that lie outside. Bitmaps
+// that lie on the rect are not compared.
 fn paint_alike(a: &Item, b: &Item, rect: Rect) -> bool
     requires sound { IsSoundItem a.now }
     requires other_sound { IsSoundItem b.now }
     requires rect { IsSound rect }
     ensures { IsTrue result → PaintAlike rect a.now b.now }
 {
-    // Two rects of one colour are told sooner than where they lie, two bitmaps are not.
+    // Two rects of one colour are told sooner than where they lie.
     if are_one_fill(a, b) {
         return true;
     }
-    if lies_outside(a, rect) && lies_outside(b, rect) {
-        return true;
-    }
-    are_one_bitmap(a, b)
+    lies_outside(a, rect) && lies_outside(b, rect)
 }
 
 // Whether an item has no point of a rect.

@@ -10,9 +10,15 @@ use page_display_list::Item;
 use tile_raster::TileImage;
 use viz_scene::{Quad, RenderPass, Scene};
 
+/// How many bytes of bitmaps are compared for one tile, at most. Two lists with more count as different: every tile of
+/// a layer has the whole list, so comparing all of it for each would cost tiles times bytes, while the damage compares
+/// each tile's rows once.
+const MOST_BITMAP_BYTES: usize = 4096;
+
 /// Whether two scenes are one: they have the same sides, background and passes, and the tiles of their quads
-/// the same keys and display lists. The lists are compared only where all places and stamps are equal, so that
-/// a page that moved, or of which a tile was made anew, is told apart soon.
+/// the same keys and display lists. The lists are compared only if all places and stamps are equal, so that
+/// a page that moved, or of which a tile was made anew, is told apart soon. It gives up on tiles whose lists have many
+/// bytes of bitmaps.
 #[tactic(auto, using(crate::proofs::SceneSteps::one_scene))]
 pub fn are_one(a: &Scene, b: &Scene) -> bool
     ensures { IsTrue result → a.now ≡ b.now }
@@ -170,17 +176,27 @@ fn is_one_key(a: TileKey, b: TileKey) -> bool
     a.x == b.x && a.y == b.y
 }
 
-// Whether two lists of items are one.
+// Whether two lists of items are one; false too if their bitmaps have too many bytes to be compared.
 fn are_one_items(a: &[Item], b: &[Item]) -> bool
     ensures { IsTrue result → a.now ≡ b.now }
 {
     if a.len() != b.len() {
         return false;
     }
+    let mut bytes = 0usize;
     for place in 0..a.len() {
-        if !is_same_item(&a[place], &b[place]) {
+        bytes = bytes.saturating_add(bitmap_bytes(&a[place]));
+        if bytes > MOST_BITMAP_BYTES || !is_same_item(&a[place], &b[place]) {
             return false;
         }
     }
     true
+}
+
+// How many bytes the bitmap of an item has; 0 for a rect of one colour.
+fn bitmap_bytes(item: &Item) -> usize {
+    match item {
+        Item::Rect { .. } => 0,
+        Item::Bitmap(bitmap) => bitmap.pixels().len(),
+    }
 }

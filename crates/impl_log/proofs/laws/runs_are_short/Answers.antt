@@ -1,5 +1,6 @@
 use Rattle.model_history.proofs.RangeBounds.{sent_few}
-use Rattle.impl_log.proofs.ShortRuns.{uses_few, in_flight_few}
+use Rattle.model_history.proofs.UsedInputs.{uses_few}
+use Rattle.impl_log.proofs.ShortRuns.{in_flight_few}
 use Rattle.impl_log.proofs.laws.runs_are_short.Goals as goal
 
 pub returns-clause-inputs : goal.returns-clause-inputs
