@@ -11,7 +11,7 @@ use Rattle.geom.specs.Covers.{covers}
 use Rattle.geom.proofs.Spans.{inside, is_within_of, both, both_of}
 use Rattle.region.specs.Points.{covered}
 use Rattle.viz_scene.specs.Areas.{IsOnScreen, IsUnion}
-use Rattle.viz_occlusion.specs.inner.Cover.{IsBlock, IsOpen, HasGap, IsRectAt}
+use Rattle.viz_occlusion.specs.inner.Cover.{IsBlock, IsRectAt}
 
 -- how many rects cover a point tells whether one does
 abbrev one_if : Bool → ℕ
@@ -98,26 +98,3 @@ gap_falls (negsuc a) (pos b) (pos c) l k = omega (arith, ints)
 gap_falls (negsuc a) (pos b) (negsuc c) l k = omega (arith, ints)
 gap_falls (negsuc a) (negsuc b) (pos c) l k = omega (arith, ints)
 gap_falls (negsuc a) (negsuc b) (negsuc c) l k = omega (arith, ints)
-
--- an area as columns and rows
-pub area_covered : (area : Rect) (rects : List Rect) (right bottom : ℤ) → right ≡ area.x +ℤ area.w → bottom ≡ area.y +ℤ area.h
-    → IsBlock rects area.x right area.y bottom → (x y : ℤ) → covers area x y ≡ true → covered rects x y ≡ true
-area_covered area rects right bottom e f block x y h =
-    let k = both _ _ h in
-    let across = inside area.x area.w x k.0 in
-    let down = inside area.y area.h y k.1 in
-    block x y across.low (omega (arith, ints)) down.low (omega (arith, ints))
-
-pub area_open : (area : Rect) (rects : List Rect) (right bottom : ℤ) → right ≡ area.x +ℤ area.w → bottom ≡ area.y +ℤ area.h
-    → IsOpen rects area.x right area.y bottom → HasGap area rects
-area_open area rects right bottom e f o =
-    let r = o.from_right in
-    let b = o.from_bottom in
-    record {
-      x = o.x;
-      y = o.y;
-      inside =
-          both_of _ _ (is_within_of area.x area.w o.x (record { low = o.from_left; high = omega (arith, ints) }))
-          (is_within_of area.y area.h o.y (record { low = o.from_top; high = omega (arith, ints) }));
-      outside = o.outside;
-    }

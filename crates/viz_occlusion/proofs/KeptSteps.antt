@@ -5,7 +5,6 @@ use Rattle.std.proofs.lemmas.List.{reverse-append, get_or-map, get_or_default, l
 use Rattle.std.proofs.lemmas.List.Elements.{All-weaker}
 use Rattle.geom.specs.declared.Rect.{Rect}
 use Rattle.geom.specs.Covers.{covers}
-use Rattle.region.specs.Points.{covered}
 use Rattle.pixel.specs.Colours.{Parts, blend, clear}
 use Rattle.viz_scene.specs.declared.Quad.{Quad}
 use Rattle.viz_scene.specs.declared.RenderPass.{RenderPass}
@@ -18,18 +17,19 @@ use Rattle.viz_scene.proofs.Steps.{sound_at}
 use Rattle.std.proofs.lemmas.Int.{ints}
 use Rattle.viz_scene.specs.Areas.{IsOnScreen}
 use Rattle.viz_occlusion.specs.Culled.{IsKeptAs, AreKept, AreAllKept, IsCulled}
+use Rattle.viz_occlusion.specs.inner.Bands.{InBand, has_point}
 use Rattle.viz_occlusion.specs.inner.Cover.{IsCover, IsFit, HidesNothing, IsPassed}
 use Rattle.viz_occlusion.proofs.AlphaSteps.{solid_placed}
 
 -- a quad that hides nothing adds nothing
-pub cover_kept : (q : QuadView) (later : List QuadView) (rects : List Rect) → HidesNothing q → IsCover later rects → IsCover (q ∷ later) rects
-cover_kept q later rects hides is = record { sound = λ x y h. inr (is.sound x y h); whole = λ x y h. whole x y h }
+pub cover_kept : (q : QuadView) (later : List QuadView) (bands : List (List Rect)) → HidesNothing q → IsCover later bands → IsCover (q ∷ later) bands
+cover_kept q later bands hides is = record { sound = λ k x y row h. inr (is.sound k x y row h); whole = whole }
   where
-    whole : (x y : ℤ) → IsCovered x y (q ∷ later) → covered rects x y ≡ true
-    whole x y (inl here) = absurd (hides x y here.0 here.1)
-    whole x y (inr there) = is.whole x y there
+    whole : (k : ℕ) (x y : ℤ) → InBand k y → IsCovered x y (q ∷ later) → has_point bands k x y ≡ true
+    whole k x y row (inl here) = absurd (hides x y here.0 here.1)
+    whole k x y row (inr there) = is.whole k x y row there
 
-pub passed_kept : (q : QuadView) (r : Quad) (old new : List Rect) (kept more : List Quad) → more ≡ kept ++ r ∷ [] → IsKeptAs q (quad_view r)
+pub passed_kept : (q : QuadView) (r : Quad) (old new : List (List Rect)) (kept more : List Quad) → more ≡ kept ++ r ∷ [] → IsKeptAs q (quad_view r)
     → ((later : List QuadView) → IsCover later old → IsHidden q later → ⊥) → ((later : List QuadView) → IsCover later old → IsCover (q ∷ later) new)
     → IsPassed q old new kept more
 passed_kept q r old new kept more e as_is seen grown = record {
@@ -185,7 +185,7 @@ passes_more passes i p lt e =
     ∙ ap (λ (v : List QuadView). take i (passes_view passes) ++ v ∷ []) (get_or-map pass_view passes i p (pass_view p) lt ∙ ap pass_view (sym e))
 
 -- one step back through the quads
-pub passed_on : (quads : List Quad) (left i : ℕ) (q : Quad) (old new : List Rect) (kept more : List Quad) → i + 1 ≡ left → i < length quads → q ≡ get_or quads i q
+pub passed_on : (quads : List Quad) (left i : ℕ) (q : Quad) (old new : List (List Rect)) (kept more : List Quad) → i + 1 ≡ left → i < length quads → q ≡ get_or quads i q
     → IsPassed (quad_view q) old new kept more → IsCover (quads_view (drop left quads)) old → AreKept (quads_view (drop left quads)) (quads_view (reverse kept))
     → IsCover (quads_view (drop i quads)) new × AreKept (quads_view (drop i quads)) (quads_view (reverse more))
 passed_on quads left i q old new kept more f lt e passed is k =

@@ -1,3 +1,4 @@
 pub mod AlphaSteps
+pub mod BandSteps
 pub mod CoverSteps
 pub mod KeptSteps

@@ -1,10 +1,10 @@
-//! The area that opaque quads cover, as rects.
+//! Rects that cover an area together.
 
 ghost use Rattle.std.specs.Prelude.{◌≡◌, ◌<◌, ℤ, pos, ◌+ℤ◌, ◌<ℤ◌, ◌≤ℤ◌, true, false, ◌||◌, All, IsTrue, IfSome, OnOk, MatchOption};
 ghost use Rattle.geom.specs.Covers.{covers, IsSound};
 ghost use Rattle.region.specs.Points.{covered};
 ghost use Rattle.viz_scene.specs.Areas.{IsOnScreen};
-ghost use Rattle.viz_occlusion.specs.inner.Cover.{IsBlock, IsOpen, HasGap, IsJoint, IsRectAt};
+ghost use Rattle.viz_occlusion.specs.inner.Cover.{IsBlock, IsOpen, IsJoint, IsRectAt};
 
 use geom::{Point, Rect};
 use std::alloc::AllocError;
@@ -49,20 +49,8 @@ fn joint_of(cover: &[Rect], rect: Rect) -> Option<Joint>
     None
 }
 
-/// Whether rects cover each point of an area.
-pub(crate) fn is_covered(area: Rect, cover: &[Rect]) -> bool
-    requires area { IsOnScreen area }
-    requires cover { All IsOnScreen cover.now }
-    ensures yes { IsTrue result → (x y : ℤ) → covers area x y ≡ true → covered cover.now x y ≡ true }
-    ensures no { result ≡ false → HasGap area cover.now }
-{
-    let right = end_of(area.x, area.w);
-    let bottom = end_of(area.y, area.h);
-    are_rows_covered(area.x, right, area.y, bottom, cover)
-}
-
-// The number after a span.
-fn end_of(at: i32, len: i32) -> i32
+/// The number after a span.
+pub(crate) fn end_of(at: i32, len: i32) -> i32
     requires start { pos 0 ≤ℤ at }
     requires end { (at +ℤ len) ≤ℤ pos 2048 }
     requires len { pos 0 ≤ℤ len }
@@ -71,8 +59,8 @@ fn end_of(at: i32, len: i32) -> i32
     at + len
 }
 
-// Whether rects cover each point of some columns and rows.
-fn are_rows_covered(left: i32, right: i32, top: i32, bottom: i32, cover: &[Rect]) -> bool
+/// Whether rects cover each point of some columns and rows.
+pub(crate) fn are_rows_covered(left: i32, right: i32, top: i32, bottom: i32, cover: &[Rect]) -> bool
     requires { All IsOnScreen cover.now }
     ensures yes { IsTrue result → IsBlock cover.now left right top bottom }
     ensures no { result ≡ false → IsOpen cover.now left right top bottom }
@@ -87,7 +75,7 @@ fn are_rows_covered(left: i32, right: i32, top: i32, bottom: i32, cover: &[Rect]
     true
 }
 
-// A row up to which the columns are covered from a row on; None where a point of that row is not covered.
+// A row up to which the columns are covered from a row on; None if a point of that row is not covered.
 fn covered_until(left: i32, right: i32, y: i32, bottom: i32, cover: &[Rect]) -> Option<i32>
     requires some { y <ℤ bottom }
     requires cover { All IsOnScreen cover.now }

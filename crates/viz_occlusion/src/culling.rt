@@ -3,13 +3,11 @@
 ghost use Rattle.std.specs.Prelude.{◌≡◌, false, All, List, ◌∷◌, OnOk, IsTrue, IfOk};
 ghost use Rattle.viz_scene.specs.Views.{QuadView, quad_view, quads_view, passes_view};
 ghost use Rattle.viz_scene.specs.Opaque.{IsHidden};
-ghost use Rattle.viz_scene.specs.Areas.{IsOnScreen};
 ghost use Rattle.viz_occlusion.specs.Culled.{IsKeptAs, AreKept, AreAllKept, IsCulled};
 ghost use Rattle.viz_occlusion.specs.inner.Cover.{IsCover, IsFit, IsPassed};
 
-use crate::cover::{add_rect, is_covered};
+use crate::bands::Cover;
 use crate::opaque::is_opaque;
-use geom::Rect;
 use std::alloc::{AllocError, Global};
 use viz_scene::{Quad, RenderPass, Scene};
 
@@ -46,7 +44,7 @@ fn kept_quads(alloc: Global, quads: &[Quad]) -> Result<Vec<Quad>, AllocError>
     requires { All IsFit (quads_view quads.now) }
     ensures { IfOk result (λ kept. AreKept (quads_view quads.now) (quads_view kept.items)) }
 {
-    let mut cover = Vec::new(alloc);
+    let mut cover = Cover::new(alloc)?;
     let mut kept = Vec::with_capacity(alloc, quads.len())?;
     let mut left = quads.len();
     while left > 0 {
@@ -58,11 +56,9 @@ fn kept_quads(alloc: Global, quads: &[Quad]) -> Result<Vec<Quad>, AllocError>
 }
 
 // Keeps a quad after those that were kept, unless the area hides it, and adds what it hides.
-fn keep_quad(quad: &Quad, cover: &mut Vec<Rect>, kept: &mut Vec<Quad>) -> Result<(), AllocError>
-    requires fits { IsFit (quad_view quad.now) }
-    requires cover { All IsOnScreen cover.old.items }
-    ensures passed { OnOk result (IsPassed (quad_view quad.now) cover.old.items cover.new.items kept.old.items kept.new.items) }
-    ensures inside { All IsOnScreen cover.new.items }
+fn keep_quad(quad: &Quad, cover: &mut Cover, kept: &mut Vec<Quad>) -> Result<(), AllocError>
+    requires { IsFit (quad_view quad.now) }
+    ensures { OnOk result (IsPassed (quad_view quad.now) cover.old cover.new kept.old.items kept.new.items) }
 {
     if is_hidden(quad, cover) {
         return Ok(());
@@ -73,15 +69,15 @@ fn keep_quad(quad: &Quad, cover: &mut Vec<Rect>, kept: &mut Vec<Quad>) -> Result
 }
 
 // Whether an area hides a quad.
-fn is_hidden(quad: &Quad, cover: &[Rect]) -> bool
-    requires fits { IsFit (quad_view quad.now) }
-    requires cover { All IsOnScreen cover.now }
+#[tactic(auto, using(crate::proofs::BandSteps::hidden_by))]
+fn is_hidden(quad: &Quad, cover: &Cover) -> bool
+    requires { IsFit (quad_view quad.now) }
     ensures yes { IsTrue result → (later : List QuadView) → IsCover later cover.now → IsHidden (quad_view quad.now) later }
     ensures no { result ≡ false → (later : List QuadView) → IsCover later cover.now → IsHidden (quad_view quad.now) later → ⊥ }
 {
     match quad {
-        Quad::Tile { at, .. } => is_covered(*at, cover),
-        Quad::Solid { at, .. } => is_covered(*at, cover),
+        Quad::Tile { at, .. } => cover.has(*at),
+        Quad::Solid { at, .. } => cover.has(*at),
         Quad::Group { .. } => false,
     }
 }
@@ -110,22 +106,20 @@ fn kept_as(quad: &Quad) -> Result<Quad, AllocError>
 }
 
 // Adds what a quad hides.
-fn add_cover(cover: &mut Vec<Rect>, quad: &Quad) -> Result<(), AllocError>
-    requires fits { IsFit (quad_view quad.now) }
-    requires cover { All IsOnScreen cover.old.items }
-    ensures cover { OnOk result ((later : List QuadView) → IsCover later cover.old.items → IsCover (quad_view quad.now ∷ later) cover.new.items) }
-    ensures inside { All IsOnScreen cover.new.items }
+fn add_cover(cover: &mut Cover, quad: &Quad) -> Result<(), AllocError>
+    requires { IsFit (quad_view quad.now) }
+    ensures { OnOk result ((later : List QuadView) → IsCover later cover.old → IsCover (quad_view quad.now ∷ later) cover.new) }
 {
     if !is_opaque(quad) {
         return Ok(());
     }
     match quad {
         Quad::Tile { at, .. } => {
-            add_rect(cover, *at)?;
+            cover.add(*at)?;
             Ok(())
         }
         Quad::Solid { at, .. } => {
-            add_rect(cover, *at)?;
+            cover.add(*at)?;
             Ok(())
         }
         Quad::Group { .. } => Ok(()),

@@ -12,6 +12,7 @@ use Rattle.viz_scene.specs.Areas.{IsOnScreen, IsUnion}
 use Rattle.viz_occlusion.specs.declared.cover.Joint.{Joint}
 use Rattle.viz_occlusion.specs.declared.opaque.ImagePart.{ImagePart}
 use Rattle.viz_occlusion.specs.Culled.{AreKept}
+use Rattle.viz_occlusion.specs.inner.Bands.{InBand, has_point}
 
 -- the quad lies on a screen, and the part of an image that it shows in the image
 abbrev pub IsFit : QuadView → Type 0
@@ -19,10 +20,10 @@ IsFit (tiled image at from) = IsOnScreen at × IsTaken image at from
 IsFit (plain at colour) = IsOnScreen at
 IsFit (grouped pass opacity) = Unit {0}
 
--- the rects cover the points that opaque quads lie on and no others
-pub record IsCover (quads : List QuadView) (rects : List Rect) : Type 0 where
-  pub sound : (x y : ℤ) → covered rects x y ≡ true → IsCovered x y quads
-  pub whole : (x y : ℤ) → IsCovered x y quads → covered rects x y ≡ true
+-- of the points of its rows each band covers those that opaque quads lie on and no others
+pub record IsCover (quads : List QuadView) (bands : List (List Rect)) : Type 0 where
+  pub sound : (k : ℕ) (x y : ℤ) → InBand k y → has_point bands k x y ≡ true → IsCovered x y quads
+  pub whole : (k : ℕ) (x y : ℤ) → InBand k y → IsCovered x y quads → has_point bands k x y ≡ true
 
 -- one rect of the list and another make one rect
 pub record IsJoint (rects : List Rect) (r : Rect) (j : Joint) : Type 0 where
@@ -43,13 +44,6 @@ pub record IsOpen (rects : List Rect) (left right top bottom : ℤ) : Type 0 whe
   pub from_right : x <ℤ right
   pub from_top : top ≤ℤ y
   pub from_bottom : y <ℤ bottom
-  pub outside : covered rects x y ≡ false
-
--- a point of an area that no rect covers
-pub record HasGap (area : Rect) (rects : List Rect) : Type 0 where
-  pub x : ℤ
-  pub y : ℤ
-  pub inside : covers area x y ≡ true
   pub outside : covered rects x y ≡ false
 
 -- the rect covers the point, and the list covers what the rect does
@@ -76,7 +70,7 @@ pub record HasOtherAlpha (image : Image) (part : ImagePart) : Type 0 where
   pub other : (list_colour image.list image.rect (part.left + x) (part.top + y)).a ≢ 255
 
 -- a quad was kept or left out as it has to be, whatever comes after it: the area and the quads that were kept, last first
-pub record IsPassed (q : QuadView) (old_cover new_cover : List Rect) (old_kept new_kept : List Quad) : Type 0 where
+pub record IsPassed (q : QuadView) (old_cover new_cover : List (List Rect)) (old_kept new_kept : List Quad) : Type 0 where
   pub cover : (later : List QuadView) → IsCover later old_cover → IsCover (q ∷ later) new_cover
   pub kept : (later : List QuadView) → IsCover later old_cover → AreKept later (quads_view (reverse old_kept))
       → AreKept (q ∷ later) (quads_view (reverse new_kept))

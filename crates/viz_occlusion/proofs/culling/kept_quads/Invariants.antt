@@ -1,7 +1,6 @@
 -- The quads from the place on were gone through.
-use Rattle.std.specs.Prelude.{◌≤◌, All, length, drop, reverse}
+use Rattle.std.specs.Prelude.{◌≤◌, length, drop, reverse}
 use Rattle.viz_scene.specs.Views.{quads_view}
-use Rattle.viz_scene.specs.Areas.{IsOnScreen}
 use Rattle.viz_occlusion.specs.Culled.{AreKept}
 use Rattle.viz_occlusion.specs.inner.Cover.{IsCover}
 use Rattle.viz_occlusion.proofs.culling.kept_quads.Given as given
@@ -9,8 +8,7 @@ use Rattle.viz_occlusion.proofs.culling.kept_quads.Given as given
 abbrev pub invariant-loop-left : given.invariant-loop-left
 invariant-loop-left l = record {
   inside : l.left ≤ length l.quads;
-  cover : IsCover (quads_view (drop l.left l.quads)) l.cover.items;
-  rects : All IsOnScreen l.cover.items;
+  cover : IsCover (quads_view (drop l.left l.quads)) l.cover;
   kept : AreKept (quads_view (drop l.left l.quads)) (quads_view (reverse l.kept.items));
 }
 
