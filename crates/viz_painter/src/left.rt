@@ -1,17 +1,14 @@
-//! What is left to draw of a scene where another one is shown.
+//! What is left to draw of a scene if another one is shown.
 
-ghost use Rattle.std.specs.Prelude.{◌≡◌, ℤ, false, IfOk};
-ghost use Rattle.geom.specs.Covers.{covers};
-ghost use Rattle.region.specs.Points.{covered};
-ghost use Rattle.viz_damage.specs.Damage.{AreAlikeOutside, screen};
+ghost use Rattle.std.specs.Prelude.{◌≡◌, IfOk};
+ghost use Rattle.viz_damage.specs.Damage.{AreAlikeOutside};
 ghost use Rattle.viz_damage.specs.Moved.{IsShift};
 ghost use Rattle.viz_painter.specs.inner.Rests.{IsLeft, CoversScreen, rest_in};
 
 use crate::worth::{may_pay, pays};
-use geom::Rect;
 use region::Region;
 use std::alloc::{AllocError, Global};
-use viz_damage::{Shift, damage_of, damage_of_shift, shift_of};
+use viz_damage::{Shift, damage_of, damage_of_shift, shift_of, whole_screen};
 use viz_scene::Scene;
 
 /// What is left to draw of a scene.
@@ -19,7 +16,7 @@ use viz_scene::Scene;
 pub(crate) struct Left {
     /// Outside of the damage the picture showed the scene beforehand.
     pub(crate) damage: Region,
-    /// The rows to move first; None where all of the damage is left to draw.
+    /// The rows to move first; None if all of the damage is left to draw.
     pub(crate) moved: Option<MovedRows>,
 }
 
@@ -44,7 +41,7 @@ impl Left {
         })
     }
 
-    /// What is left where a scene of the same size is shown, which may have been scrolled. An error means out of
+    /// What is left if a scene of the same size is shown, which may have been scrolled. An error means out of
     /// memory.
     pub(crate) fn of_change(alloc: Global, old: &Scene, scene: &Scene) -> Result<Left, AllocError>
         requires wide { old.now.w ≡ scene.now.w }
@@ -74,21 +71,7 @@ impl Left {
     }
 }
 
-// the region of all points of the screen
-fn whole_screen(alloc: Global, scene: &Scene) -> Result<Region, AllocError>
-    ensures { IfOk result (λ region. (x y : ℤ) → covered region x y ≡ false → covers (screen scene.now) x y ≡ false) }
-{
-    let mut region = Region::new(alloc);
-    region.add(Rect {
-        x: 0,
-        y: 0,
-        w: scene.w() as i32,
-        h: scene.h() as i32,
-    })?;
-    Ok(region)
-}
-
-// moves rows where less is left then than the damage
+// Moves rows if less is left then than the damage.
 fn left_of_shift(
     alloc: Global,
     old: &Scene,
