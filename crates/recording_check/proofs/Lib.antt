@@ -1,7 +1,6 @@
 pub mod FrontFacts
 pub mod InputsFit
 pub mod JudgedPieces
-pub mod KeyRows
 pub mod KeysFit
 pub mod LegalEvents
 pub mod LegalRecordings

@@ -9,8 +9,8 @@ use Rattle.pixel.specs.Colours.{Parts}
 use Rattle.pixel.specs.Rows.{pixel}
 use Rattle.pixel.specs.Surfaces.{EachPixel, holds, within_rows}
 use Rattle.page_layers.specs.Paintings.{Placed, has_place}
+use Rattle.page_layers.proofs.KeyRows.{column_in_row}
 use Rattle.recording_check.specs.inner.Sheets.{patched}
-use Rattle.recording_check.proofs.KeyRows.{column_in_row}
 
 -- pixels of a row that get a colour
 pub filled_there : (k n width : ℕ) (c : Parts) (old new : List ℕ) → k + n ≤ width

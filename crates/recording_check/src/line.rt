@@ -6,14 +6,24 @@ ghost use Rattle.pixel.specs.Colours.{blend};
 ghost use Rattle.pixel.specs.Rows.{pixel, ArePremultiplied};
 ghost use Rattle.page_properties.specs.Placement.{IsWithin, minus};
 ghost use Rattle.page_display_list.specs.Shared.{IsShared};
-ghost use Rattle.page_layers.specs.Paintings.{colour_there};
-ghost use Rattle.recording_check.specs.inner.Sheets.{colour_in};
+ghost use Rattle.page_layers.specs.Paintings.{colour_there, placed_colour};
 
 use crate::missing::draw_missing;
-use crate::sheet::Sheet;
 use geom::{Point, Rect};
 use page_display_list::{CoveredArea, shared_part};
+use page_layers::PlacedLayer;
 use pixel::{Pixels, Size, image_over_area};
+
+/// A row of the screen.
+#[derive(Clone, Copy)]
+pub(crate) struct ScreenRow {
+    /// Which one, counted from the top.
+    pub(crate) y: u32,
+    /// How many of its pixels are painted, at most 2048.
+    pub(crate) width: usize,
+    /// The side of the tiles of the layers.
+    pub(crate) tile: u32,
+}
 
 // One row of points, from a point on.
 fn row_from(from: Point, width: usize) -> Rect
@@ -49,7 +59,7 @@ fn screen_row(width: usize, y: u32) -> Rect
 }
 
 // Draws a row of a layer from this point of it on.
-fn draw_row(sheet: &Sheet, tile: u32, from: Point, width: usize, row: &mut [u8])
+fn draw_row(layer: &PlacedLayer, tile: u32, from: Point, width: usize, row: &mut [u8])
     requires cut { 1 ≤ tile }
     requires left { neg_ℤ (pos (2 ^ 29)) ≤ℤ from.x }
     requires right { from.x ≤ℤ pos (2 ^ 29) }
@@ -57,12 +67,12 @@ fn draw_row(sheet: &Sheet, tile: u32, from: Point, width: usize, row: &mut [u8])
     requires lower { from.y ≤ℤ pos (2 ^ 29) }
     requires few { width ≤ 2048 }
     requires size { length row.old ≡ 4 * width }
-    ensures pixels { (k : ℕ) → k < width → pixel row.new k ≡ colour_there tile sheet.now.placed (record { x = from.x +ℤ pos k; y = from.y }) }
+    ensures pixels { (k : ℕ) → k < width → pixel row.new k ≡ colour_there tile layer.now (record { x = from.x +ℤ pos k; y = from.y }) }
     ensures size { length row.new ≡ 4 * width }
     ensures premultiplied { ArePremultiplied row.new }
 {
-    sheet.list().raster_into(row_from(from, width), row);
-    draw_missing(sheet, tile, from, width, row);
+    layer.list().raster_into(row_from(from, width), row);
+    draw_missing(layer, tile, from, width, row);
 }
 
 // The point of a layer that lies at a place of the screen.
@@ -82,29 +92,24 @@ fn point_at(x: usize, y: u32, by: Point) -> Point
     }
 }
 
-// Lays a layer over the part of row `y` of the screen where it lies.
-fn lay_part(
-    sheet: &Sheet,
-    tile: u32,
-    width: usize,
-    y: u32,
-    part: CoveredArea,
-    row: &mut [u8],
-    line: &mut [u8],
-)
-    requires cut { 1 ≤ tile }
-    requires few { width ≤ 2048 }
-    requires down { y ≤ 2047 }
-    requires shared { IsShared sheet.now.placed.area (record { x = pos 0; y = pos y; w = pos width; h = pos 1 }) part }
-    requires size { length row.old ≡ 4 * width }
-    requires line { 4 * width ≤ length line.old }
-    ensures pixels { (x : ℕ) → x < width → pixel row.new x ≡ blend (pixel row.old x) (colour_in tile (pos x) (pos y) sheet.now) }
+// Lays a layer over the part of a row of the screen where it lies.
+fn lay_part(layer: &PlacedLayer, at: ScreenRow, part: CoveredArea, row: &mut [u8], line: &mut [u8])
+    requires cut { 1 ≤ at.tile }
+    requires few { at.width ≤ 2048 }
+    requires down { at.y ≤ 2047 }
+    requires shared { IsShared layer.now.area (record { x = pos 0; y = pos at.y; w = pos at.width; h = pos 1 }) part }
+    requires size { length row.old ≡ 4 * at.width }
+    requires line { 4 * at.width ≤ length line.old }
+    ensures pixels { (x : ℕ) → x < at.width → pixel row.new x ≡ blend (pixel row.old x) (placed_colour at.tile (pos x) (pos at.y) layer.now) }
     ensures premultiplied { ArePremultiplied row.old → ArePremultiplied row.new }
 {
-    let from = point_at(part.at.x, y, sheet.by());
+    let from = point_at(part.at.x, at.y, layer.by());
     let columns = &mut line[..4 * part.at.w];
-    draw_row(sheet, tile, from, part.at.w, columns);
-    let size = Size { width, height: 1 };
+    draw_row(layer, at.tile, from, part.at.w, columns);
+    let size = Size {
+        width: at.width,
+        height: 1,
+    };
     let run = Size {
         width: part.at.w,
         height: 1,
@@ -113,25 +118,17 @@ fn lay_part(
     image_over_area(row, size, part.at, &pixels, 0, 0);
 }
 
-/// Lays a layer over row `y` of the screen, whose tiles have this side: over as many pixels as `width`
-/// says, at most 2048. What `line` holds afterwards is not said.
-pub(crate) fn lay_over(
-    sheet: &Sheet,
-    tile: u32,
-    width: usize,
-    y: u32,
-    row: &mut [u8],
-    line: &mut [u8],
-)
-    requires cut { 1 ≤ tile }
-    requires few { width ≤ 2048 }
-    requires down { y ≤ 2047 }
-    requires size { length row.old ≡ 4 * width }
-    requires line { 4 * width ≤ length line.old }
-    ensures pixels { (x : ℕ) → x < width → pixel row.new x ≡ blend (pixel row.old x) (colour_in tile (pos x) (pos y) sheet.now) }
+/// Lays a layer over a row of the screen. What `line` holds afterwards is not said.
+pub(crate) fn lay_over(layer: &PlacedLayer, at: ScreenRow, row: &mut [u8], line: &mut [u8])
+    requires cut { 1 ≤ at.tile }
+    requires few { at.width ≤ 2048 }
+    requires down { at.y ≤ 2047 }
+    requires size { length row.old ≡ 4 * at.width }
+    requires line { 4 * at.width ≤ length line.old }
+    ensures pixels { (x : ℕ) → x < at.width → pixel row.new x ≡ blend (pixel row.old x) (placed_colour at.tile (pos x) (pos at.y) layer.now) }
     ensures premultiplied { ArePremultiplied row.old → ArePremultiplied row.new }
 {
-    if let Some(part) = shared_part(sheet.area(), screen_row(width, y)) {
-        lay_part(sheet, tile, width, y, part, row, line);
+    if let Some(part) = shared_part(layer.area(), screen_row(at.width, at.y)) {
+        lay_part(layer, at, part, row, line);
     }
 }

@@ -6,11 +6,10 @@
 ghost use Rattle.std.specs.Prelude.{◌≡◌, ◌≤◌, ◌<◌, ◌+◌, ◌*◌, ◌/◌, ◌^◌, ◌⊎◌, ℕ, pos, neg_ℤ, ◌≤ℤ◌, ◌+ℤ◌, ◌==◌, cond, unsigned_abs, length};
 ghost use Rattle.std.specs.List.{list_any};
 ghost use Rattle.pixel.specs.Rows.{pixel, ArePremultiplied};
-ghost use Rattle.page_layers.specs.TreePainting.{place_at};
 ghost use Rattle.recording_check.specs.inner.Sheets.{patched};
 
-use crate::sheet::Sheet;
-use geom::{Place, Point, TileKey};
+use geom::{Point, TileKey};
+use page_layers::{PlacedLayer, place_at};
 use pixel::{Area, Colour, Size, fill_area};
 
 // Whether one of the keys stands in this column of tiles.
@@ -20,19 +19,8 @@ fn has_column(keys: &[TileKey], column: u32) -> bool
     keys.iter().any(|key| key.x == column)
 }
 
-// The place of a point of a layer, in tiles of this size.
-fn place_of(tile: u32, at: Point) -> Place
-    requires { 1 ≤ tile }
-    ensures { result ≡ place_at tile at }
-{
-    Place {
-        x: at.x.unsigned_abs() / tile,
-        y: at.y.unsigned_abs() / tile,
-    }
-}
-
 // The given number of points of a layer, from this one on to the right, lie in one tile: all up to the tile's
-// edge where the point is right of the layer's origin, and at most `most`.
+// edge if the point is right of the layer's origin, and at most `most`.
 fn run_in_tile(tile: u32, at: Point, most: usize) -> usize
     requires cut { 1 ≤ tile }
     requires any { 1 ≤ most }
@@ -47,41 +35,40 @@ fn run_in_tile(tile: u32, at: Point, most: usize) -> usize
     most.min(left as usize)
 }
 
-// Gives pixels k to k + n of a row a colour.
-fn fill_run(row: &mut [u8], width: usize, k: usize, n: usize, colour: Colour)
+/// A run of pixels of a row.
+#[derive(Clone, Copy)]
+struct Run {
+    first: usize,
+    len: usize,
+}
+
+// Gives a run of pixels of a row a colour.
+fn fill_run(row: &mut [u8], width: usize, run: Run, colour: Colour)
     requires size { length row.old ≡ 4 * width }
-    requires inside { k + n ≤ width }
-    ensures there { (j : ℕ) → k ≤ j → j < k + n → pixel row.new j ≡ colour }
-    ensures others { (j : ℕ) → j < width → (j < k) ⊎ (k + n ≤ j) → pixel row.new j ≡ pixel row.old j }
+    requires inside { run.first + run.len ≤ width }
+    ensures there { (j : ℕ) → run.first ≤ j → j < run.first + run.len → pixel row.new j ≡ colour }
+    ensures others { (j : ℕ) → j < width → (j < run.first) ⊎ (run.first + run.len ≤ j) → pixel row.new j ≡ pixel row.old j }
     ensures premultiplied { ArePremultiplied row.old → ArePremultiplied row.new }
 {
     let at = Area {
-        x: k,
+        x: run.first,
         y: 0,
-        w: n,
+        w: run.len,
         h: 1,
     };
     fill_area(row, Size { width, height: 1 }, at, colour);
 }
 
-// Gives pixels k to k + n of a row a colour where one of the keys stands in this column of tiles.
-fn draw_run(
-    keys: &[TileKey],
-    column: u32,
-    colour: Colour,
-    row: &mut [u8],
-    width: usize,
-    k: usize,
-    n: usize,
-)
+// Gives a run of pixels of a row a colour if one of the keys stands in this column of tiles.
+fn draw_run(keys: &[TileKey], column: u32, colour: Colour, row: &mut [u8], width: usize, run: Run)
     requires size { length row.old ≡ 4 * width }
-    requires inside { k + n ≤ width }
-    ensures there { (j : ℕ) → k ≤ j → j < k + n → pixel row.new j ≡ cond (list_any (λ k. k.x == column) keys.now) colour (pixel row.old j) }
-    ensures others { (j : ℕ) → j < width → (j < k) ⊎ (k + n ≤ j) → pixel row.new j ≡ pixel row.old j }
+    requires inside { run.first + run.len ≤ width }
+    ensures there { (j : ℕ) → run.first ≤ j → j < run.first + run.len → pixel row.new j ≡ cond (list_any (λ k. k.x == column) keys.now) colour (pixel row.old j) }
+    ensures others { (j : ℕ) → j < width → (j < run.first) ⊎ (run.first + run.len ≤ j) → pixel row.new j ≡ pixel row.old j }
     ensures premultiplied { ArePremultiplied row.old → ArePremultiplied row.new }
 {
     if has_column(keys, column) {
-        fill_run(row, width, k, n, colour);
+        fill_run(row, width, run, colour);
     }
 }
 
@@ -99,16 +86,22 @@ fn right_of(from: Point, k: usize) -> Point
 }
 
 /// Draws those pixels of a row of a layer, from this point of it on, that lie in its missing tiles.
-pub(crate) fn draw_missing(sheet: &Sheet, tile: u32, from: Point, width: usize, row: &mut [u8])
+pub(crate) fn draw_missing(
+    layer: &PlacedLayer,
+    tile: u32,
+    from: Point,
+    width: usize,
+    row: &mut [u8],
+)
     requires cut { 1 ≤ tile }
     requires low { neg_ℤ (pos (2 ^ 29)) ≤ℤ from.x }
     requires high { from.x ≤ℤ pos (2 ^ 29) }
     requires few { width ≤ 2048 }
     requires size { length row.old ≡ 4 * width }
-    ensures pixels { (k : ℕ) → k < width → pixel row.new k ≡ patched tile sheet.now.placed (record { x = from.x +ℤ pos k; y = from.y }) (pixel row.old k) }
+    ensures pixels { (k : ℕ) → k < width → pixel row.new k ≡ patched tile layer.now (record { x = from.x +ℤ pos k; y = from.y }) (pixel row.old k) }
     ensures premultiplied { ArePremultiplied row.old → ArePremultiplied row.new }
 {
-    let keys = sheet.missing_in(place_of(tile, from).y);
+    let keys = layer.missing_in(place_at(tile, from).y);
     if keys.is_empty() {
         return;
     }
@@ -116,7 +109,8 @@ pub(crate) fn draw_missing(sheet: &Sheet, tile: u32, from: Point, width: usize, 
     while k < width {
         let at = right_of(from, k);
         let n = run_in_tile(tile, at, width - k);
-        draw_run(keys, place_of(tile, at).x, sheet.colour(), row, width, k, n);
+        let run = Run { first: k, len: n };
+        draw_run(keys, place_at(tile, at).x, layer.colour(), row, width, run);
         k += n;
     }
 }

@@ -13,16 +13,27 @@ ghost use Rattle.recording_check.specs.inner.Behind.{behind_each, pixel_of, row_
 ghost use Rattle.recording_check.specs.inner.Sheets.{ready};
 
 use crate::fronts::{behind_front, behind_pixel};
+use crate::line::ScreenRow;
 use crate::sheet::{Sheet, sheets_of};
 use crate::stack::{clear_row, paint_from};
 use geom::TileKey;
-use page_layers::LayerTree;
+use page_layers::{LayerTree, View};
 use page_properties::Offsets;
 use pixel::{Colour, colour_at, fill_row};
 use recording_text::push_image_head;
 use std::alloc::{AllocError, Global};
 
-// What stands after the first w pixels of a row; None where the bytes do not begin with them.
+/// What the screen shows.
+#[derive(Drop)]
+struct Painting<'a> {
+    // the layers, from the lowest on
+    sheets: &'a [Sheet],
+    view: View,
+    // what stands below them
+    background: Colour,
+}
+
+// What stands after the first w pixels of a row; None if the bytes do not begin with them.
 fn behind_row<'a>(row: &[u8], w: usize, bytes: &'a [u8]) -> Option<&'a [u8]>
     requires size { length row.now ≡ 4 * w }
     requires premultiplied { ArePremultiplied row.now }
@@ -38,56 +49,54 @@ fn behind_row<'a>(row: &[u8], w: usize, bytes: &'a [u8]) -> Option<&'a [u8]>
     Some(rest)
 }
 
-// Paints the first w pixels of row y of the screen. What `line` holds afterwards is not said.
+// Paints row y of the screen. What `line` holds afterwards is not said.
 fn paint_row(
     alloc: Global,
-    sheets: &[Sheet],
-    tile: u32,
-    background: Colour,
-    w: usize,
+    painting: &Painting<'_>,
     y: u32,
     row: &mut [u8],
     line: &mut [u8],
 ) -> Result<(), AllocError>
-    requires cut { 1 ≤ tile }
-    requires few { w ≤ 2048 }
+    requires cut { 1 ≤ painting.now.view.tile }
+    requires few { painting.now.view.w ≤ 2048 }
     requires down { y ≤ 2047 }
-    requires size { length row.old ≡ 4 * w }
-    requires line { 4 * w ≤ length line.old }
-    ensures pixels { OnOk result ((p : Page) (offset : ℕ → Point) (missing : List Key) → ReadyShows p offset missing (ready tile sheets.now) →
-        (x : ℕ) → x < w → pixel row.new x ≡ pixel_of p offset missing background x y) }
+    requires size { length row.old ≡ 4 * painting.now.view.w }
+    requires line { 4 * painting.now.view.w ≤ length line.old }
+    ensures pixels { OnOk result ((p : Page) (offset : ℕ → Point) (missing : List Key) → ReadyShows p offset missing (ready painting.now.view.tile painting.now.sheets.now) →
+        (x : ℕ) → x < painting.now.view.w → pixel row.new x ≡ pixel_of p offset missing painting.now.background x y) }
     ensures premultiplied { ArePremultiplied row.new }
 {
-    fill_row(row, background);
-    paint_from(alloc, sheets, 0, tile, w, y, row, line)?;
+    let at = ScreenRow {
+        y,
+        width: painting.view.w as usize,
+        tile: painting.view.tile,
+    };
+    fill_row(row, painting.background);
+    paint_from(alloc, painting.sheets, 0, at, row, line)?;
     Ok(())
 }
 
-// What stands after the first w pixels of each of the first h rows of the screen; None where the bytes do
-// not begin with them. What `row` and `line` hold afterwards is not said.
+// What stands after the pixels of all rows of the screen; None if the bytes do not begin with them. What `row` and `line` hold afterwards is not said.
 fn behind_rows<'a>(
     alloc: Global,
-    sheets: &[Sheet],
-    tile: u32,
-    background: Colour,
-    w: usize,
-    h: u32,
+    painting: &Painting<'_>,
     row: &mut [u8],
     line: &mut [u8],
     bytes: &'a [u8],
 ) -> Result<Option<&'a [u8]>, AllocError>
-    requires cut { 1 ≤ tile }
-    requires width { w ≤ 2048 }
-    requires height { h ≤ 2048 }
-    requires size { length row.old ≡ 4 * w }
-    requires line { 4 * w ≤ length line.old }
-    ensures { IfOk result (λ rest. (p : Page) (offset : ℕ → Point) (missing : List Key) → ReadyShows p offset missing (ready tile sheets.now) →
-        option_copied rest ≡ behind_each h (row_text (pixel_of p offset missing background) w) bytes.now) }
+    requires cut { 1 ≤ painting.now.view.tile }
+    requires width { painting.now.view.w ≤ 2048 }
+    requires height { painting.now.view.h ≤ 2048 }
+    requires size { length row.old ≡ 4 * painting.now.view.w }
+    requires line { 4 * painting.now.view.w ≤ length line.old }
+    ensures { IfOk result (λ rest. (p : Page) (offset : ℕ → Point) (missing : List Key) → ReadyShows p offset missing (ready painting.now.view.tile painting.now.sheets.now) →
+        option_copied rest ≡ behind_each painting.now.view.h (row_text (pixel_of p offset missing painting.now.background) painting.now.view.w) bytes.now) }
 {
+    let width = painting.view.w as usize;
     let mut rest = bytes;
-    for y in 0..h {
-        paint_row(alloc, sheets, tile, background, w, y, row, line)?;
-        match behind_row(row, w, rest) {
+    for y in 0..painting.view.h {
+        paint_row(alloc, painting, y, row, line)?;
+        match behind_row(row, width, rest) {
             None => return Ok(None),
             Some(next) => rest = next,
         }
@@ -96,32 +105,24 @@ fn behind_rows<'a>(
 }
 
 // What stands after the first w pixels of each of the first h rows of the screen, with the memory for the
-// rows; None where the bytes do not begin with them.
+// rows; None if the bytes do not begin with them.
 fn behind_pixels<'a>(
     alloc: Global,
-    sheets: &[Sheet],
-    tile: u32,
-    background: Colour,
-    w: u32,
-    h: u32,
+    painting: &Painting<'_>,
     bytes: &'a [u8],
 ) -> Result<Option<&'a [u8]>, AllocError>
-    requires cut { 1 ≤ tile }
-    requires width { w ≤ 2048 }
-    requires height { h ≤ 2048 }
-    ensures { IfOk result (λ rest. (p : Page) (offset : ℕ → Point) (missing : List Key) → ReadyShows p offset missing (ready tile sheets.now) →
-        option_copied rest ≡ behind_each h (row_text (pixel_of p offset missing background) w) bytes.now) }
+    requires cut { 1 ≤ painting.now.view.tile }
+    requires width { painting.now.view.w ≤ 2048 }
+    requires height { painting.now.view.h ≤ 2048 }
+    ensures { IfOk result (λ rest. (p : Page) (offset : ℕ → Point) (missing : List Key) → ReadyShows p offset missing (ready painting.now.view.tile painting.now.sheets.now) →
+        option_copied rest ≡ behind_each painting.now.view.h (row_text (pixel_of p offset missing painting.now.background) painting.now.view.w) bytes.now) }
 {
-    let width = w as usize;
+    let width = painting.view.w as usize;
     let mut row = clear_row(alloc, width)?;
     let mut line = clear_row(alloc, width)?;
     let rest = behind_rows(
         alloc,
-        sheets,
-        tile,
-        background,
-        width,
-        h,
+        painting,
         row.as_mut_slice(),
         line.as_mut_slice(),
         bytes,
@@ -132,25 +133,21 @@ fn behind_pixels<'a>(
 // Whether bytes are a head and the rows of the screen after it, and nothing more.
 fn holds_image(
     alloc: Global,
-    sheets: &[Sheet],
-    tile: u32,
-    background: Colour,
+    painting: &Painting<'_>,
     head: &[u8],
-    w: u32,
-    h: u32,
     bytes: &[u8],
 ) -> Result<bool, AllocError>
-    requires cut { 1 ≤ tile }
-    requires width { w ≤ 2048 }
-    requires height { h ≤ 2048 }
-    requires head { head.now ≡ image_head w h }
-    ensures { IfOk result (λ yes. (p : Page) (offset : ℕ → Point) (missing : List Key) → ReadyShows p offset missing (ready tile sheets.now) →
-        Decides yes (bytes.now ≡ image (pixel_of p offset missing background) w h)) }
+    requires cut { 1 ≤ painting.now.view.tile }
+    requires width { painting.now.view.w ≤ 2048 }
+    requires height { painting.now.view.h ≤ 2048 }
+    requires head { head.now ≡ image_head painting.now.view.w painting.now.view.h }
+    ensures { IfOk result (λ yes. (p : Page) (offset : ℕ → Point) (missing : List Key) → ReadyShows p offset missing (ready painting.now.view.tile painting.now.sheets.now) →
+        Decides yes (bytes.now ≡ image (pixel_of p offset missing painting.now.background) painting.now.view.w painting.now.view.h)) }
 {
     let Some(pixels) = behind_front(head, bytes) else {
         return Ok(false);
     };
-    let behind = behind_pixels(alloc, sheets, tile, background, w, h, pixels)?;
+    let behind = behind_pixels(alloc, painting, pixels)?;
     match behind {
         None => Ok(false),
         Some(rest) => Ok(rest.is_empty()),
@@ -176,15 +173,11 @@ pub fn is_painted(
     let sheets = sheets_of(alloc, page, offsets, missing)?;
     let mut head = Vec::new(alloc);
     push_image_head(&mut head, view.w, view.h)?;
-    let holds = holds_image(
-        alloc,
-        sheets.as_slice(),
-        view.tile,
+    let painting = Painting {
+        sheets: sheets.as_slice(),
+        view,
         background,
-        head.as_slice(),
-        view.w,
-        view.h,
-        bytes,
-    )?;
+    };
+    let holds = holds_image(alloc, &painting, head.as_slice(), bytes)?;
     Ok(holds)
 }

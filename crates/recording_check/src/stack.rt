@@ -8,7 +8,7 @@ ghost use Rattle.page_layers.specs.Painting.{folded, items_at};
 ghost use Rattle.page_layers.specs.inner.Runs.{lies_in};
 ghost use Rattle.recording_check.specs.inner.Sheets.{effects_of, colour_in, HaveOpacities};
 
-use crate::line::lay_over;
+use crate::line::{ScreenRow, lay_over};
 use crate::sheet::Sheet;
 use pixel::faded_over;
 use std::alloc::{AllocError, Global};
@@ -59,7 +59,7 @@ fn fade_over(row: &mut [u8], width: usize, inner: &[u8], opacity: u8)
     faded_over(row, inner, opacity);
 }
 
-/// Layers, those of one effect with their groups from a depth on, laid over row `y` of the screen in order.
+/// Layers, those of one effect with their groups from a depth on, laid over a row of the screen in order.
 /// Layers that stand together in a group are blended from transparent, faded by the group's opacity, and laid
 /// over what stands below them. What `line` holds afterwards is not said. An error means out of
 /// memory.
@@ -67,43 +67,32 @@ pub(crate) fn paint_from(
     alloc: Global,
     sheets: &[Sheet],
     depth: usize,
-    tile: u32,
-    width: usize,
-    y: u32,
+    at: ScreenRow,
     row: &mut [u8],
     line: &mut [u8],
 ) -> Result<(), AllocError>
     requires deep { depth ≤ 256 }
-    requires cut { 1 ≤ tile }
-    requires few { width ≤ 2048 }
-    requires down { y ≤ 2047 }
-    requires size { length row.old ≡ 4 * width }
-    requires line { 4 * width ≤ length line.old }
-    ensures pixels { OnOk result ((opacity : ℕ → ℕ) (x : ℕ) → HaveOpacities opacity sheets.now → x < width →
-        pixel row.new x ≡ folded opacity (items_at effects_of (colour_in tile (pos x) (pos y)) depth sheets.now) (pixel row.old x)) }
+    requires cut { 1 ≤ at.tile }
+    requires few { at.width ≤ 2048 }
+    requires down { at.y ≤ 2047 }
+    requires size { length row.old ≡ 4 * at.width }
+    requires line { 4 * at.width ≤ length line.old }
+    ensures pixels { OnOk result ((opacity : ℕ → ℕ) (x : ℕ) → HaveOpacities opacity sheets.now → x < at.width →
+        pixel row.new x ≡ folded opacity (items_at effects_of (colour_in at.tile (pos x) (pos at.y)) depth sheets.now) (pixel row.old x)) }
     ensures premultiplied { ArePremultiplied row.old → ArePremultiplied row.new }
 {
     let mut rest = sheets;
     while let Some((first, tail)) = rest.split_first() {
         match first.group(depth) {
             None => {
-                lay_over(first, tile, width, y, row, line);
+                lay_over(first.placed(), at, row, line);
                 rest = tail;
             }
             Some(group) => {
                 let (run, after) = rest.split_at(run_len(rest, depth, group.effect));
-                let mut inner = clear_row(alloc, width)?;
-                paint_from(
-                    alloc,
-                    run,
-                    depth + 1,
-                    tile,
-                    width,
-                    y,
-                    inner.as_mut_slice(),
-                    line,
-                )?;
-                fade_over(row, width, inner.as_slice(), group.opacity);
+                let mut inner = clear_row(alloc, at.width)?;
+                paint_from(alloc, run, depth + 1, at, inner.as_mut_slice(), line)?;
+                fade_over(row, at.width, inner.as_slice(), group.opacity);
                 rest = after;
             }
         }

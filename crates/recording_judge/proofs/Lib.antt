@@ -3,7 +3,6 @@ pub mod QueueFacts
 pub mod TileSteps
 pub mod MainSteps
 pub mod HostFacts
-pub mod EmptyTrees
 pub mod DueEvents
 pub mod StateFacts
 pub mod ShownPages

@@ -8,4 +8,4 @@ lay_part-requires-clause-shared c = rw (c.area.ensures.value, c.screen_row.ensur
 pub returns-in_default-clause-pixels : goal.returns-in_default-clause-pixels
 returns-in_default-clause-pixels c =
     let outside = rw (c.area.ensures.value, c.screen_row.ensures.value) at c.in_default.ensures in
-    nothing_laid c.args.tile c.args.sheet.now.placed c.args.width c.args.y c.args.row.now outside
+    nothing_laid c.args.at.tile c.args.layer.now c.args.at.width c.args.at.y c.args.row.now outside

@@ -18,6 +18,6 @@ new-pixels-requires-clause-room c = omega (arith, c.draw_row.ensures.size)
 
 pub returns-clause-pixels : goal.returns-clause-pixels
 returns-clause-pixels c =
-    let from = c.point_at-from.ensures.value ∙ ap (λ (b : Point). minus (record { x = pos c.args.part.at.x; y = pos c.args.y }) b) c.by.ensures.value in
-    laid c.args.tile c.args.sheet.now.placed c.args.width c.args.y c.args.part c.point_at-from.result c.args.row.now c.draw_row.new.row c.image_over_area.new.surface c.requires.shared from c.draw_row.ensures.pixels
+    let from = c.point_at-from.ensures.value ∙ ap (λ (b : Point). minus (record { x = pos c.args.part.at.x; y = pos c.args.at.y }) b) c.by.ensures.value in
+    laid c.args.at.tile c.args.layer.now c.args.at.width c.args.at.y c.args.part c.point_at-from.result c.args.row.now c.draw_row.new.row c.image_over_area.new.surface c.requires.shared from c.draw_row.ensures.pixels
     (rw (c.new-pixels.ensures) at c.image_over_area.ensures.pixels)

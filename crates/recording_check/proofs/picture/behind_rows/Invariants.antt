@@ -10,4 +10,4 @@ use Rattle.recording_check.proofs.picture.behind_rows.Given as goal
 
 abbrev pub invariant-loop-y : goal.invariant-loop-y
 invariant-loop-y l =
-    (p : Page) (offset : ℕ → Point) (missing : List TileKey) → ReadyShows p offset missing (ready l.tile l.sheets) → behind_each l.y (row_text (pixel_of p offset missing l.background) l.w) l.bytes ≡ Some l.rest
+    (p : Page) (offset : ℕ → Point) (missing : List TileKey) → ReadyShows p offset missing (ready l.painting.view.tile l.painting.sheets.now) → behind_each l.y (row_text (pixel_of p offset missing l.painting.background) l.painting.view.w) l.bytes ≡ Some l.rest

@@ -11,9 +11,9 @@ decreases-paint_from l = 257 - l.depth
 abbrev pub invariant-loop-first : goal.invariant-loop-first
 invariant-loop-first l = record {
   painted : (opacity : ℕ → ℕ) → HaveOpacities opacity l.sheets →
-      HaveOpacities opacity l.rest × ((x : ℕ) → x < l.width →
-      folded opacity (items_at effects_of (colour_in l.tile (pos x) (pos l.y)) l.depth l.rest) (pixel l.row x)
-      ≡ folded opacity (items_at effects_of (colour_in l.tile (pos x) (pos l.y)) l.depth l.sheets) (pixel l.initial.row x));
+      HaveOpacities opacity l.rest × ((x : ℕ) → x < l.at.width →
+      folded opacity (items_at effects_of (colour_in l.at.tile (pos x) (pos l.at.y)) l.depth l.rest) (pixel l.row x)
+      ≡ folded opacity (items_at effects_of (colour_in l.at.tile (pos x) (pos l.at.y)) l.depth l.sheets) (pixel l.initial.row x));
   premultiplied : ArePremultiplied l.initial.row → ArePremultiplied l.row;
 }
 
