@@ -26,3 +26,16 @@ abbrev pub NotFailed : {X : Type 0} → Result X PutFault → Type 0
 NotFailed (Ok _) = ⊤
 NotFailed (Err Failed) = ⊥
 NotFailed (Err (Memory _)) = ⊤
+
+-- ---- of what may be put in several pieces
+
+-- the sink gained all these bytes, or if some were refused, a prefix of them
+abbrev pub PutsAll : {X E : Type 0} → Option (List ℕ) → Option (List ℕ) → List ℕ → Result X E → Type 0
+PutsAll old new whole (Ok _) = Appends old new whole
+PutsAll old new whole (Err _) = GainsPrefix old new whole
+
+-- the answer is `Failed` only if the count of faults rose
+abbrev pub WriteCause : {X : Type 0} → ℕ → ℕ → Result X PutFault → Type 0
+WriteCause old new (Ok _) = ⊤
+WriteCause old new (Err Failed) = Rose old new
+WriteCause old new (Err (Memory _)) = ⊤

@@ -2,8 +2,9 @@
 use Rattle.std.proofs.Common.{◌≡◌, ℕ, List, [], ◌∷◌, ◌++◌, length, refl, ap, sym, ◌∙◌, append_assoc, append-nil, subst, arith}
 use Rattle.std.specs.Prelude.{reverse, Option, Result, Ok, Err, IfOk, OnErr, OnOk}
 use Rattle.std.specs.Io.KnownBytes.{Appends}
+use Rattle.std.specs.declared.alloc.AllocError.{AllocError}
 use Rattle.std.proofs.lemmas.List.{reverse-append, reverse-reverse}
-use Rattle.byte_io.specs.Pieces.{GainsPrefix}
+use Rattle.byte_io.specs.Pieces.{GainsPrefix, PutsAll, WriteCause}
 use Rattle.model_history.specs.declared.history.Entry.{Entry}
 use Rattle.model_history.specs.declared.input.Input.{Input}
 use Rattle.model_history.specs.Accepted.{IsAccepted}
@@ -17,8 +18,7 @@ use Rattle.model_lockstep.proofs.Parts as parts
 use Rattle.impl_log.specs.Runs.{Run, past}
 use Rattle.script_json.specs.Recordings.{script_text, recording}
 use Rattle.proxy_single_thread.specs.Singles.{SingleModel, walk_of}
-use Rattle.thread_pieces.specs.declared.writing.WriteStop.{WriteStop}
-use Rattle.thread_pieces.specs.Writing.{PutsAll, WriteCause}
+use Rattle.byte_io.specs.declared.writing.PutFault.{PutFault}
 use Rattle.thread_pieces.proofs.Gains.{gains_both, gains_front, gains_longer}
 use Rattle.player_lockstep.specs.Recordings.{IsLockstepRecording}
 use Rattle.player_lockstep.specs.inner.Batches.{HasGathered, KeepsUp, OnCourse, StaysOn, StopsEarly, joint_answer, run_text}
@@ -174,26 +174,26 @@ fresh_half s m start now lines held fresh same half =
     subst (λ (w : List ℕ). Half start now w held) (sym text) (subst (λ (w : List ℕ). Half start now (header (script_text s)) w) (sym same) half)
 
 -- however putting ended, a prefix of what was entered before was put
-pub put_front : {Y : Type 0} (old : Run) (start now next : Option (List ℕ)) (held shots lines : List ℕ) → shots ++ lines ≡ held → Half start now (run_text old) held → (put : Result Y WriteStop) → PutsAll now next shots put → GainsPrefix start next (run_text old)
+pub put_front : {Y : Type 0} (old : Run) (start now next : Option (List ℕ)) (held shots lines : List ℕ) → shots ++ lines ≡ held → Half start now (run_text old) held → (put : Result Y PutFault) → PutsAll now next shots put → GainsPrefix start next (run_text old)
 put_front old start now next held shots lines are half (Ok y) puts = half_front start next (run_text old) lines (half_put start now next (run_text old) held shots lines are half puts)
 put_front old start now next held shots lines are half (Err stop) puts = half_stopped start now next (run_text old) held shots lines are half puts
 
 -- ---- what playing and putting answered together
 
-module _ {X Y A : Type 0} where
-  pub joint_if : (F : X → Type 0) (played : Result X A) (put : Result Y WriteStop) → IfOk played F → IfOk (joint_answer played put) F
+module _ {X Y : Type 0} where
+  pub joint_if : (F : X → Type 0) (played : Result X AllocError) (put : Result Y PutFault) → IfOk played F → IfOk (joint_answer played put) F
   joint_if F (Ok left) (Ok y) holds = holds
   joint_if F (Ok left) (Err stop) holds = tt
   joint_if F (Err e) (Ok y) holds = tt
   joint_if F (Err e) (Err stop) holds = tt
 
-  pub joint_err : (P : Type 0) (played : Result X A) (put : Result Y WriteStop) → P → OnErr (joint_answer played put) P
+  pub joint_err : (P : Type 0) (played : Result X AllocError) (put : Result Y PutFault) → P → OnErr (joint_answer played put) P
   joint_err P (Ok left) (Ok y) holds = tt
   joint_err P (Ok left) (Err stop) holds = holds
   joint_err P (Err e) (Ok y) holds = holds
   joint_err P (Err e) (Err stop) holds = holds
 
-  pub joint_cause : (f g : ℕ) (played : Result X A) (put : Result Y WriteStop) → WriteCause f g put → WriteCause f g (joint_answer played put)
+  pub joint_cause : (f g : ℕ) (played : Result X AllocError) (put : Result Y PutFault) → WriteCause f g put → WriteCause f g (joint_answer played put)
   joint_cause f g (Ok left) (Ok y) cause = tt
   joint_cause f g (Ok left) (Err stop) cause = cause
   joint_cause f g (Err e) (Ok y) cause = tt
@@ -201,7 +201,7 @@ module _ {X Y A : Type 0} where
 
   module _ (old new : Run) (start now next : Option (List ℕ)) (held shots lines after : List ℕ) (are : shots ++ lines ≡ held) (half : Half start now (run_text old) held) where
     -- both went well
-    pub joint_ok : (played : Result X A) (put : Result Y WriteStop) → OnOk played (KeepsUp old new lines after) → PutsAll now next shots put → OnOk (joint_answer played put) (Half start next (run_text new) after)
+    pub joint_ok : (played : Result X AllocError) (put : Result Y PutFault) → OnOk played (KeepsUp old new lines after) → PutsAll now next shots put → OnOk (joint_answer played put) (Half start next (run_text new) after)
     joint_ok (Ok left) (Ok y) keeps puts = half_later old new start next lines after (half_put start now next (run_text old) held shots lines are half puts) keeps
     joint_ok (Ok left) (Err stop) keeps puts = tt
     joint_ok (Err e) (Ok y) keeps puts = tt

@@ -4,7 +4,7 @@ use Rattle.std.specs.Prelude.{reverse, Option, Result, Ok, Err}
 use Rattle.std.specs.Io.KnownBytes.{Appends}
 use Rattle.std.proofs.lemmas.Grind.{flat_map-append}
 use Rattle.std.proofs.lemmas.List.{reverse-append, reverse-reverse, length-reverse}
-use Rattle.byte_io.specs.Pieces.{GainsPrefix}
+use Rattle.byte_io.specs.Pieces.{GainsPrefix, PutsAll}
 use Rattle.viz_scene.specs.Views.{SceneView}
 use Rattle.model_history.specs.declared.event.Event.{Event}
 use Rattle.model_history.specs.declared.event.Event.TheVariants as event
@@ -23,7 +23,6 @@ use Rattle.model_lockstep.proofs.Wholes.{lockstep_there}
 use Rattle.impl_log.specs.Runs.{Run, past}
 use Rattle.proxy_single_thread.specs.Singles.{SingleModel, AddsScene, AreScenes, walk_of}
 use Rattle.player_lockstep.specs.Films.{images_before, film, IsLockstepFilm}
-use Rattle.thread_pieces.specs.Writing.{PutsAll}
 use Rattle.recording_writer.specs.Images.{scene_images}
 use Rattle.player_lockstep.specs.inner.Filming.{newer_images, standing, standing_at, HasFilmed, FilmedSome, FilmsWay}
 use Rattle.thread_pieces.specs.Scenes.{scene_image}

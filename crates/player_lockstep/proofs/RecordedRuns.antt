@@ -2,7 +2,7 @@
 use Rattle.std.proofs.Common.{◌≡◌, ℕ, List, [], ◌++◌, refl, ap, sym, ◌∙◌, append-nil, subst}
 use Rattle.std.specs.Prelude.{reverse, Option, None, Result, Ok, Err, IfOk, ⊤}
 use Rattle.std.proofs.lemmas.List.{reverse-reverse}
-use Rattle.byte_io.specs.Pieces.{GainsPrefix}
+use Rattle.byte_io.specs.Pieces.{GainsPrefix, PutsAll, WriteCause}
 use Rattle.model_history.specs.declared.history.Entry.{Entry}
 use Rattle.model_history.specs.declared.input.Input.{Input}
 use Rattle.model_history.specs.Accepted.{IsAccepted}
@@ -16,9 +16,8 @@ use Rattle.impl_log.specs.Runs.{new_run}
 use Rattle.script_json.specs.Recordings.{script_text, recording}
 use Rattle.proxy_single_thread.specs.Singles.{SingleModel, walk_of}
 use Rattle.player_lockstep.specs.Recordings.{IsLockstepRecording, Records}
-use Rattle.thread_pieces.specs.declared.writing.WriteStop.{WriteStop}
-use Rattle.thread_pieces.specs.declared.writing.WriteStop.TheVariants.{Fault, Memory}
-use Rattle.thread_pieces.specs.Writing.{PutsAll, WriteCause}
+use Rattle.byte_io.specs.declared.writing.PutFault.{PutFault}
+use Rattle.byte_io.specs.declared.writing.PutFault.TheVariants.{Failed, Memory}
 use Rattle.recording_writer.specs.declared.recorder.Recorder.{Recorder}
 use Rattle.recording_writer.specs.Parts.{Half, WritesPart}
 use Rattle.recording_writer.specs.Repeats.{KeepsFrom}
@@ -106,18 +105,18 @@ module _ {X E : Type 0} (s : ScriptModel) (inputs : List Input) (start new : Sin
       subst (λ (h : List Entry). IsLockstep s h) (sym entries) r.lockstep
 
 -- a run that was recorded or not says the same with its entries
-pub records_run : {X : Type 0} (s : ScriptModel) (old new : Option (List ℕ)) (x : X) (written : Result ⊤ WriteStop) (result : Result X WriteStop) → result ≡ recorded_run x written → Records s old new written → Records s old new result
-records_run s old new x (Ok tt) result is records = subst (λ (r : Result _ WriteStop). Records s old new r) (sym is) records
-records_run s old new x (Err stop) result is records = subst (λ (r : Result _ WriteStop). Records s old new r) (sym is) records
+pub records_run : {X : Type 0} (s : ScriptModel) (old new : Option (List ℕ)) (x : X) (written : Result ⊤ PutFault) (result : Result X PutFault) → result ≡ recorded_run x written → Records s old new written → Records s old new result
+records_run s old new x (Ok tt) result is records = subst (λ (r : Result _ PutFault). Records s old new r) (sym is) records
+records_run s old new x (Err stop) result is records = subst (λ (r : Result _ PutFault). Records s old new r) (sym is) records
 
-pub cause_run : {X : Type 0} (f g : ℕ) (x : X) (written : Result ⊤ WriteStop) (result : Result X WriteStop) → result ≡ recorded_run x written → WriteCause f g written → WriteCause f g result
-cause_run f g x (Ok tt) result is cause = subst (λ (r : Result _ WriteStop). WriteCause f g r) (sym is) tt
-cause_run f g x (Err Fault) result is cause = subst (λ (r : Result _ WriteStop). WriteCause f g r) (sym is) cause
-cause_run f g x (Err Memory) result is cause = subst (λ (r : Result _ WriteStop). WriteCause f g r) (sym is) tt
+pub cause_run : {X : Type 0} (f g : ℕ) (x : X) (written : Result ⊤ PutFault) (result : Result X PutFault) → result ≡ recorded_run x written → WriteCause f g written → WriteCause f g result
+cause_run f g x (Ok tt) result is cause = subst (λ (r : Result _ PutFault). WriteCause f g r) (sym is) tt
+cause_run f g x (Err Failed) result is cause = subst (λ (r : Result _ PutFault). WriteCause f g r) (sym is) cause
+cause_run f g x (Err (Memory _)) result is cause = subst (λ (r : Result _ PutFault). WriteCause f g r) (sym is) tt
 
-pub lockstep_run : (s : ScriptModel) (entries : List Entry) (written : Result ⊤ WriteStop) (result : Result (List Entry) WriteStop) → result ≡ recorded_run entries written → IfOk written (λ whole. IsLockstep s entries) → IfOk result (IsLockstep s)
-lockstep_run s entries (Ok tt) result is right = subst (λ (r : Result (List Entry) WriteStop). IfOk r (IsLockstep s)) (sym is) right
-lockstep_run s entries (Err stop) result is right = subst (λ (r : Result (List Entry) WriteStop). IfOk r (IsLockstep s)) (sym is) tt
+pub lockstep_run : (s : ScriptModel) (entries : List Entry) (written : Result ⊤ PutFault) (result : Result (List Entry) PutFault) → result ≡ recorded_run entries written → IfOk written (λ whole. IsLockstep s entries) → IfOk result (IsLockstep s)
+lockstep_run s entries (Ok tt) result is right = subst (λ (r : Result (List Entry) PutFault). IfOk r (IsLockstep s)) (sym is) right
+lockstep_run s entries (Err stop) result is right = subst (λ (r : Result (List Entry) PutFault). IfOk r (IsLockstep s)) (sym is) tt
 
 -- what holds however it ends holds where it ends well
 pub where_ok : {X E : Type 0} (P : Type 0) (result : Result X E) → P → IfOk result (λ x. P)

@@ -6,8 +6,8 @@ use Rattle.model_history.specs.declared.history.Entry.{Entry}
 use Rattle.model_history.specs.Lockstep.{IsLockstep}
 use Rattle.model_history.specs.Recordings.{image_behind, shown_image}
 use Rattle.model_history.specs.Scripts.{ScriptModel}
-use Rattle.thread_pieces.specs.declared.writing.WriteStop.{WriteStop}
-use Rattle.thread_pieces.specs.Writing.{PutsAll}
+use Rattle.byte_io.specs.declared.writing.PutFault.{PutFault}
+use Rattle.byte_io.specs.Pieces.{PutsAll}
 
 -- the images of a past whose newest entry stands first, the oldest image first
 abbrev pub images_before : ScriptModel → List Entry → List ℕ
@@ -33,7 +33,7 @@ abbrev pub IsLockstepFilm : ScriptModel → List ℕ → Type 0
 IsLockstepFilm s whole = (history : List Entry) × IsLockstep s history × (whole ≡ film s history)
 
 -- the sink gained the images of the script's run, or if writing stopped, a prefix of them
-abbrev pub Films : {X : Type 0} → ScriptModel → Option (List ℕ) → Option (List ℕ) → Result X WriteStop → Type 0
+abbrev pub Films : {X : Type 0} → ScriptModel → Option (List ℕ) → Option (List ℕ) → Result X PutFault → Type 0
 Films s old new result = (whole : List ℕ) × IsLockstepFilm s whole × PutsAll old new whole result
 
 -- the last image of the script's lockstep history, if it has one

@@ -42,7 +42,7 @@
 ghost use Rattle.std.specs.Prelude.{◌≡◌, ◌≤◌, ◌<◌, ◌++◌, ℕ, List, [], Option, length, reverse, IfOk, OnErr, OnOk};
 ghost use Rattle.std.specs.Thread.{IsSync};
 ghost use Rattle.serde_json.specs.Written.{compact_text};
-ghost use Rattle.byte_io.specs.Pieces.{GainsPrefix};
+ghost use Rattle.byte_io.specs.Pieces.{GainsPrefix, PutsAll, WriteCause};
 ghost use Rattle.model_history.specs.declared.history.Entry.{Entry};
 ghost use Rattle.model_history.specs.Lockstep.{IsLockstep};
 ghost use Rattle.model_history.specs.Recordings.{header, pieces};
@@ -51,7 +51,6 @@ ghost use Rattle.impl_log.specs.Kept.{forgettable};
 ghost use Rattle.impl_log.specs.Runs.{past};
 ghost use Rattle.proxy_single_thread.specs.Singles.{walk_of};
 ghost use Rattle.thread_pieces.specs.Shots.{all_shown};
-ghost use Rattle.thread_pieces.specs.Writing.{PutsAll, WriteCause};
 ghost use Rattle.script_json.specs.ScriptValue.{parts_data};
 ghost use Rattle.player_lockstep.specs.Recordings.{Records};
 ghost use Rattle.recording_writer.specs.Batches.{held_of};
@@ -59,7 +58,7 @@ ghost use Rattle.player_lockstep.specs.inner.Batches.{HasGathered, KeepsUp, OnCo
 ghost use Rattle.recording_writer.specs.Parts.{Half};
 ghost use Rattle.player_lockstep.specs.inner.Ways.{IsFresh};
 
-use byte_io::Sink;
+use byte_io::{PutFault, Sink};
 use model_history::{Input, Script};
 use model_lockstep::{end_run, play_input};
 use proxy_single_thread::SingleThread;
@@ -67,7 +66,7 @@ use recording_writer::{Batch, ImagePainter, put_shots};
 use std::alloc::{AllocError, Global};
 use std::marker::Sync;
 use std::thread::{Threads, join_mut};
-use thread_pieces::{Painters, Shot, WriteStop};
+use thread_pieces::{Painters, Shot};
 
 // Adds what was entered since the last time.
 fn gather_news(single: &mut SingleThread, batch: &mut Batch) -> Result<(), AllocError>
@@ -125,18 +124,18 @@ fn gather_inputs<'i, R: Threads + Sync>(
 // What playing and putting answered together.
 fn both_answer<'i>(
     played: Result<&'i [Input], AllocError>,
-    put: Result<(), WriteStop>,
-) -> Result<&'i [Input], WriteStop>
+    put: Result<(), PutFault>,
+) -> Result<&'i [Input], PutFault>
     ensures { result ≡ joint_answer played.entry put }
 {
     match (played, put) {
         (_, Err(stop)) => Err(stop),
         (Ok(left), Ok(())) => Ok(left),
-        (Err(_), Ok(())) => Err(WriteStop::Memory),
+        (Err(refused), Ok(())) => Err(PutFault::Memory(refused)),
     }
 }
 
-// Plays inputs into a batch, and paints and puts these pieces, side by side where a thread can be started. The inputs
+// Plays inputs into a batch, and paints and puts these pieces, side by side if a thread can be started. The inputs
 // that are left.
 fn play_beside<'i, R: Threads + Sync, K: Sink>(
     rt: &R,
@@ -147,7 +146,7 @@ fn play_beside<'i, R: Threads + Sync, K: Sink>(
     batch: &mut Batch,
     shots: Vec<Shot>,
     out: &mut K,
-) -> (Result<&'i [Input], AllocError>, Result<(), WriteStop>)
+) -> (Result<&'i [Input], AllocError>, Result<(), PutFault>)
     requires course { OnCourse inputs.now single.old }
     ensures course { IfOk result.0 (λ left. StaysOn left.now single.old.run single.new) }
     ensures bytes { OnOk result.0 (KeepsUp single.old.run single.new.run (held_of batch.old) (held_of batch.new)) }
@@ -177,7 +176,7 @@ fn record_batch<'i, R: Threads + Sync, K: Sink>(
     inputs: &'i [Input],
     batch: &mut Batch,
     out: &mut K,
-) -> Result<&'i [Input], WriteStop>
+) -> Result<&'i [Input], PutFault>
     requires course { OnCourse inputs.now single.old }
     ensures course { IfOk result (λ left. StaysOn left.now single.old.run single.new) }
     ensures ok { (start : Option (List ℕ)) → Half start (K.held out.old) (run_text single.old.run) (held_of batch.old) → OnOk result (Half start (K.held out.new) (run_text single.new.run) (held_of batch.new)) }
@@ -200,7 +199,7 @@ fn record_inputs<R: Threads + Sync, K: Sink>(
     inputs: &[Input],
     batch: &mut Batch,
     out: &mut K,
-) -> Result<(), WriteStop>
+) -> Result<(), PutFault>
     requires course { OnCourse inputs.now single.old }
     ensures course { OnOk result (StaysOn [] single.old.run single.new) }
     ensures ok { (start : Option (List ℕ)) → Half start (K.held out.old) (run_text single.old.run) (held_of batch.old) → OnOk result (Half start (K.held out.new) (run_text single.new.run) (held_of batch.new)) }
@@ -239,7 +238,7 @@ fn record_end<R: Threads + Sync, K: Sink>(
     single: &mut SingleThread,
     batch: &mut Batch,
     out: &mut K,
-) -> Result<(), WriteStop>
+) -> Result<(), PutFault>
     requires course { OnCourse [] single.old }
     ensures bytes { (start : Option (List ℕ)) → Half start (K.held out.old) (run_text single.old.run) (held_of batch.old) → Records single.old.run.script start (K.held out.new) result }
     ensures history { IfOk result (λ whole. IsLockstep single.old.run.script single.new.run.entries) }
@@ -248,7 +247,7 @@ fn record_end<R: Threads + Sync, K: Sink>(
 {
     match gather_end(rt, single, batch) {
         Ok(()) => batch.put(rt, painters, out),
-        Err(_) => Err(WriteStop::Memory),
+        Err(refused) => Err(PutFault::Memory(refused)),
     }
 }
 
@@ -261,7 +260,7 @@ fn record_run<R: Threads + Sync, K: Sink>(
     inputs: &[Input],
     batch: &mut Batch,
     out: &mut K,
-) -> Result<(), WriteStop>
+) -> Result<(), PutFault>
     requires course { OnCourse inputs.now single.old }
     ensures bytes { (start : Option (List ℕ)) → Half start (K.held out.old) (run_text single.old.run) (held_of batch.old) → Records single.old.run.script start (K.held out.new) result }
     ensures history { IfOk result (λ whole. IsLockstep single.old.run.script single.new.run.entries) }
@@ -284,7 +283,7 @@ pub(crate) fn record_batches<R: Threads + Sync, K: Sink>(
     single: &mut SingleThread,
     script: &Script,
     out: &mut K,
-) -> Result<(), WriteStop>
+) -> Result<(), PutFault>
     requires { IsFresh script.now single.old }
     ensures bytes { (start : Option (List ℕ)) → Half start (K.held out.old) (header (compact_text (parts_data script.now))) lines.items → Records script.now start (K.held out.new) result }
     ensures history { IfOk result (λ whole. IsLockstep script.now single.new.run.entries) }

@@ -7,11 +7,11 @@ ghost use Rattle.model_lockstep.specs.Walks.{CanFollow, input_played, inputs_fro
 ghost use Rattle.proxy_single_thread.specs.Singles.{walk_of};
 ghost use Rattle.impl_log.specs.Runs.{past};
 ghost use Rattle.player_lockstep.specs.Films.{Films, images_before};
-ghost use Rattle.thread_pieces.specs.Writing.{PutsAll, WriteCause};
+ghost use Rattle.byte_io.specs.Pieces.{PutsAll, WriteCause};
 ghost use Rattle.player_lockstep.specs.inner.Filming.{FilmsWay, newer_images};
 ghost use Rattle.player_lockstep.specs.inner.Ways.{IsFresh};
 
-use byte_io::Sink;
+use byte_io::{PutFault, Sink};
 use model_history::{Input, Script};
 use model_lockstep::{end_run, play_input};
 use proxy_single_thread::{Retention, SingleThread};
@@ -19,7 +19,6 @@ use recording_writer::ImageWriter;
 use std::alloc::{AllocError, Global};
 use std::sync::Arc;
 use std::thread::Threads;
-use thread_pieces::WriteStop;
 
 // Puts the images of what was entered since the last time.
 fn put_news<R: Threads + Sync, K: Sink>(
@@ -27,7 +26,7 @@ fn put_news<R: Threads + Sync, K: Sink>(
     images: &mut ImageWriter,
     single: &mut SingleThread,
     out: &mut K,
-) -> Result<(), WriteStop>
+) -> Result<(), PutFault>
     ensures run { single.new.run ≡ single.old.run }
     ensures all { single.new.written ≡ length single.old.run.entries }
     ensures bytes { (newer h : List Entry) → past single.old.run ≡ newer ++ h → single.old.written ≡ length h → PutsAll (K.held out.old) (K.held out.new) (newer_images single.old.run.script newer h) result }
@@ -46,7 +45,7 @@ fn film_input<R: Threads + Sync, K: Sink>(
     single: &mut SingleThread,
     input: &Input,
     out: &mut K,
-) -> Result<(), WriteStop>
+) -> Result<(), PutFault>
     requires can { CanFollow (input_played input.now) (walk_of single.old) }
     requires all { single.old.written ≡ length single.old.run.entries }
     ensures bytes { (start : Option (List ℕ)) → Appends start (K.held out.old) (images_before single.old.run.script (past single.old.run)) → FilmsWay (input_played input.now) start (K.held out.new) single.old.run single.new result }
@@ -55,7 +54,7 @@ fn film_input<R: Threads + Sync, K: Sink>(
 {
     match play_input(rt, single, input) {
         Ok(()) => put_news(rt, images, single, out),
-        Err(_) => Err(WriteStop::Memory),
+        Err(refused) => Err(PutFault::Memory(refused)),
     }
 }
 
@@ -66,7 +65,7 @@ fn film_inputs<R: Threads + Sync, K: Sink>(
     single: &mut SingleThread,
     inputs: &[Input],
     out: &mut K,
-) -> Result<(), WriteStop>
+) -> Result<(), PutFault>
     requires can { CanFollow (inputs_from inputs.now) (walk_of single.old) }
     requires all { single.old.written ≡ length single.old.run.entries }
     ensures bytes { (start : Option (List ℕ)) → Appends start (K.held out.old) (images_before single.old.run.script (past single.old.run)) → FilmsWay (inputs_from inputs.now) start (K.held out.new) single.old.run single.new result }
@@ -89,7 +88,7 @@ fn film_end<R: Threads + Sync, K: Sink>(
     images: &mut ImageWriter,
     single: &mut SingleThread,
     out: &mut K,
-) -> Result<(), WriteStop>
+) -> Result<(), PutFault>
     requires can { CanFollow run_end (walk_of single.old) }
     requires all { single.old.written ≡ length single.old.run.entries }
     ensures bytes { (start : Option (List ℕ)) → Appends start (K.held out.old) (images_before single.old.run.script (past single.old.run)) → FilmsWay run_end start (K.held out.new) single.old.run single.new result }
@@ -98,7 +97,7 @@ fn film_end<R: Threads + Sync, K: Sink>(
 {
     match end_run(rt, single) {
         Ok(()) => put_news(rt, images, single, out),
-        Err(_) => Err(WriteStop::Memory),
+        Err(refused) => Err(PutFault::Memory(refused)),
     }
 }
 
@@ -109,7 +108,7 @@ fn film_run<R: Threads + Sync, K: Sink>(
     single: &mut SingleThread,
     script: &Script,
     out: &mut K,
-) -> Result<(), WriteStop>
+) -> Result<(), PutFault>
     requires { IsFresh script.now single.old }
     ensures bytes { Films script.now (K.held out.old) (K.held out.new) result }
     ensures grows { K.faults out.old ≤ K.faults out.new }
@@ -138,7 +137,7 @@ fn prepare(
 }
 
 /// Plays an accepted script in lockstep with the given number of workers, and writes the images of its
-/// recording alone, one after another, as they are made. Where it stops early, the sink gained a prefix of them.
+/// recording alone, one after another, as they are made. If it stops early, the sink gained a prefix of them.
 /// No image is kept, so a run may be of any length.
 pub fn film_lockstep<R: Threads + Sync, K: Sink>(
     rt: &R,
@@ -146,7 +145,7 @@ pub fn film_lockstep<R: Threads + Sync, K: Sink>(
     script: Arc<Script>,
     workers: u32,
     out: &mut K,
-) -> Result<(), WriteStop>
+) -> Result<(), PutFault>
     requires { (1 ≤ workers) × (workers ≤ 16) }
     ensures bytes { Films script.value (K.held out.old) (K.held out.new) result }
     ensures grows { K.faults out.old ≤ K.faults out.new }
@@ -155,6 +154,6 @@ pub fn film_lockstep<R: Threads + Sync, K: Sink>(
     script.is_accepted();
     match prepare(alloc, &script, workers) {
         Ok((mut single, mut images)) => film_run(rt, &mut images, &mut single, &script, out),
-        Err(_) => Err(WriteStop::Memory),
+        Err(refused) => Err(PutFault::Memory(refused)),
     }
 }

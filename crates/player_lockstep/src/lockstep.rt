@@ -11,13 +11,13 @@ ghost use Rattle.impl_log.specs.Kept.{forgettable};
 ghost use Rattle.impl_log.specs.Runs.{past};
 ghost use Rattle.proxy_single_thread.specs.Singles.{walk_of};
 ghost use Rattle.player_lockstep.specs.Recordings.{Records};
-ghost use Rattle.thread_pieces.specs.Writing.{WriteCause};
+ghost use Rattle.byte_io.specs.Pieces.{WriteCause};
 ghost use Rattle.recording_writer.specs.Parts.{Half, WritesPart};
 ghost use Rattle.recording_writer.specs.Repeats.{Keeps};
 ghost use Rattle.player_lockstep.specs.inner.Ways.{IsFresh, IsWritten, WritesWay, recorded_run, whole_played};
 
 use crate::batches::record_batches;
-use byte_io::Sink;
+use byte_io::{PutFault, Sink};
 use impl_log::KeptHistory;
 use model_history::{Input, Script};
 use model_lockstep::{end_run, play_input};
@@ -28,7 +28,6 @@ use std::alloc::{AllocError, Global};
 use std::marker::Model;
 use std::sync::Arc;
 use std::thread::Threads;
-use thread_pieces::WriteStop;
 
 /// A run whose recording was written to its end. Contracts see its entries, forgotten ones too, the oldest first.
 #[derive(Drop)]
@@ -60,7 +59,7 @@ fn write_news<R: Threads + Sync, K: Sink>(
     recorder: &mut Recorder,
     single: &mut SingleThread,
     out: &mut K,
-) -> Result<(), WriteStop>
+) -> Result<(), PutFault>
     requires kept { forgettable (past single.old.run) ≤ single.old.written }
     requires keeps { Keeps single.old.run.script (reverse (take single.old.written single.old.run.entries)) single.old.run.entries recorder.old.last }
     ensures run { single.new.run ≡ single.old.run }
@@ -82,7 +81,7 @@ fn record_input<R: Threads + Sync, K: Sink>(
     single: &mut SingleThread,
     input: &Input,
     out: &mut K,
-) -> Result<(), WriteStop>
+) -> Result<(), PutFault>
     requires can { CanFollow (input_played input.now) (walk_of single.old) }
     requires written { IsWritten single.old recorder.old }
     ensures bytes { WritesWay (input_played input.now) single.old single.new (K.held out.old) (K.held out.new) recorder.old.lines.items recorder.new result }
@@ -91,7 +90,7 @@ fn record_input<R: Threads + Sync, K: Sink>(
 {
     match play_input(rt, single, input) {
         Ok(()) => write_news(rt, recorder, single, out),
-        Err(_) => Err(WriteStop::Memory),
+        Err(refused) => Err(PutFault::Memory(refused)),
     }
 }
 
@@ -102,7 +101,7 @@ fn record_inputs<R: Threads + Sync, K: Sink>(
     single: &mut SingleThread,
     inputs: &[Input],
     out: &mut K,
-) -> Result<(), WriteStop>
+) -> Result<(), PutFault>
     requires can { CanFollow (inputs_from inputs.now) (walk_of single.old) }
     requires written { IsWritten single.old recorder.old }
     ensures bytes { WritesWay (inputs_from inputs.now) single.old single.new (K.held out.old) (K.held out.new) recorder.old.lines.items recorder.new result }
@@ -125,7 +124,7 @@ fn record_end<R: Threads + Sync, K: Sink>(
     recorder: &mut Recorder,
     single: &mut SingleThread,
     out: &mut K,
-) -> Result<(), WriteStop>
+) -> Result<(), PutFault>
     requires can { CanFollow run_end (walk_of single.old) }
     requires written { IsWritten single.old recorder.old }
     ensures bytes { WritesWay run_end single.old single.new (K.held out.old) (K.held out.new) recorder.old.lines.items recorder.new result }
@@ -134,7 +133,7 @@ fn record_end<R: Threads + Sync, K: Sink>(
 {
     match end_run(rt, single) {
         Ok(()) => write_news(rt, recorder, single, out),
-        Err(_) => Err(WriteStop::Memory),
+        Err(refused) => Err(PutFault::Memory(refused)),
     }
 }
 
@@ -145,7 +144,7 @@ fn record_run<R: Threads + Sync, K: Sink>(
     single: &mut SingleThread,
     inputs: &[Input],
     out: &mut K,
-) -> Result<(), WriteStop>
+) -> Result<(), PutFault>
     requires can { CanFollow (whole_played inputs.now) (walk_of single.old) }
     requires written { IsWritten single.old recorder.old }
     ensures bytes { WritesWay (whole_played inputs.now) single.old single.new (K.held out.old) (K.held out.new) recorder.old.lines.items recorder.new result }
@@ -185,7 +184,7 @@ fn record_events<R: Threads + Sync, K: Sink>(
     single: &mut SingleThread,
     script: &Script,
     out: &mut K,
-) -> Result<(), WriteStop>
+) -> Result<(), PutFault>
     requires fresh { IsFresh script.now single.old }
     requires none { recorder.old.last.place ≡ None }
     ensures bytes { (start : Option (List ℕ)) → Half start (K.held out.old) (header (compact_text (parts_data script.now))) recorder.old.lines.items → Records script.now start (K.held out.new) result }
@@ -201,14 +200,14 @@ fn record_events<R: Threads + Sync, K: Sink>(
 }
 
 // Plays and writes the whole run of a script after the lines before the events: batch by batch, painted beside the
-// compositor, where there are several workers.
+// compositor, if there are several workers.
 fn record_history<R: Threads + Sync, K: Sink>(
     rt: &R,
     recorder: &mut Recorder,
     single: &mut SingleThread,
     script: &Script,
     out: &mut K,
-) -> Result<(), WriteStop>
+) -> Result<(), PutFault>
     requires fresh { IsFresh script.now single.old }
     requires none { recorder.old.last.place ≡ None }
     ensures bytes { (start : Option (List ℕ)) → Half start (K.held out.old) (header (compact_text (parts_data script.now))) recorder.old.lines.items → Records script.now start (K.held out.new) result }
@@ -232,7 +231,7 @@ fn record_whole<R: Threads + Sync, K: Sink>(
     script: &Script,
     text: Vec<u8>,
     out: &mut K,
-) -> Result<(), WriteStop>
+) -> Result<(), PutFault>
     requires fresh { IsFresh script.now single.old }
     requires name { recorder.old.lines.items ≡ codes "cc1\n" }
     requires none { recorder.old.last.place ≡ None }
@@ -252,7 +251,7 @@ fn record_whole<R: Threads + Sync, K: Sink>(
 }
 
 // The run, if all of it was written.
-fn end_with(single: SingleThread, written: Result<(), WriteStop>) -> Result<Recorded, WriteStop>
+fn end_with(single: SingleThread, written: Result<(), PutFault>) -> Result<Recorded, PutFault>
     ensures { result ≡ recorded_run single.run.entries written }
 {
     match written {
@@ -267,7 +266,7 @@ fn record_with<R: Threads + Sync, K: Sink>(
     prepared: (SingleThread, Recorder, Vec<u8>),
     script: &Script,
     out: &mut K,
-) -> Result<Recorded, WriteStop>
+) -> Result<Recorded, PutFault>
     requires fresh { IsFresh script.now prepared.0 }
     requires name { prepared.1.lines.items ≡ codes "cc1\n" }
     requires none { prepared.1.last.place ≡ None }
@@ -284,7 +283,7 @@ fn record_with<R: Threads + Sync, K: Sink>(
 
 /// Plays an accepted script in lockstep with the given number of workers, and writes its recording as it is
 /// made: the two header lines, the line of each event, and the image of what it shows after that of a draw.
-/// Where it stops early, the sink gained a prefix of it. Tiles that come next are made ahead and images are
+/// If it stops early, the sink gained a prefix of it. Tiles that come next are made ahead and images are
 /// drawn in as many threads as there are workers, beside the compositor; the recording is the same for every number
 /// of them. The run that is handed out keeps these entries.
 pub fn record_lockstep<R: Threads + Sync, K: Sink>(
@@ -294,7 +293,7 @@ pub fn record_lockstep<R: Threads + Sync, K: Sink>(
     workers: u32,
     retention: Retention,
     out: &mut K,
-) -> Result<Recorded, WriteStop>
+) -> Result<Recorded, PutFault>
     requires { (1 ≤ workers) × (workers ≤ 16) }
     ensures bytes { Records script.value (K.held out.old) (K.held out.new) result }
     ensures history { IfOk result (IsLockstep script.value) }
@@ -304,6 +303,6 @@ pub fn record_lockstep<R: Threads + Sync, K: Sink>(
     script.is_accepted();
     match prepare(alloc, &script, workers, retention) {
         Ok(prepared) => record_with(rt, prepared, &script, out),
-        Err(_) => Err(WriteStop::Memory),
+        Err(refused) => Err(PutFault::Memory(refused)),
     }
 }

@@ -1,11 +1,35 @@
 -- What was written, and what the answer then is.
-use Rattle.std.proofs.Common.{ℕ, List, inl, inr, Ok}
+use Rattle.std.proofs.Common.{◌≡◌, ℕ, List, inl, inr, sym, subst, Ok, Err}
 use Rattle.std.specs.Prelude.{Option}
+use Rattle.byte_io.specs.Pieces.{GainsPrefix, WriteCause}
+use Rattle.byte_io.specs.declared.writing.PutFault.{PutFault}
+use Rattle.byte_io.specs.declared.writing.PutFault.TheVariants as put_fault
 use Rattle.player_uses.specs.declared.outcome.Outcome.{Outcome}
 use Rattle.player_uses.specs.declared.outcome.Outcome.TheVariants.{Done, Usage, Json, Shape, Script, ReadFault, WriteFault, TooLong, BadRecording, No, Memory, NoPicture}
 use Rattle.player_uses.specs.declared.words.Use.{Use}
 use Rattle.player_uses.specs.Answers.{TellsMisfit, IsUnread}
+use Rattle.player_uses.specs.Faults.{Causes}
+use Rattle.player_uses.specs.Outcomes.{fault_outcome}
 use Rattle.player_uses.specs.Outputs.{WritesSome}
+use Rattle.player_uses.specs.inner.Recordings.{WritesImages}
+
+-- ---- where not all was put
+
+-- a prefix was written
+pub fault_some : (P : List ℕ → Type 0) (old new : Option (List ℕ)) (whole : List ℕ) (fault : PutFault) (o : Outcome) → o ≡ fault_outcome fault → P whole → GainsPrefix old new whole → WritesSome P old new o
+fault_some P old new whole put_fault.Failed o is holds front = subst (λ (z : Outcome). WritesSome P old new z) (sym is) (whole, holds, front)
+fault_some P old new whole (put_fault.Memory _) o is holds front = subst (λ (z : Outcome). WritesSome P old new z) (sym is) (inr (whole, holds, front))
+
+pub fault_images : (old new : Option (List ℕ)) (whole : List ℕ) (fault : PutFault) (o : Outcome) → o ≡ fault_outcome fault → GainsPrefix old new whole → WritesImages old new whole o
+fault_images old new whole put_fault.Failed o is front = subst (λ (z : Outcome). WritesImages old new whole z) (sym is) front
+fault_images old new whole (put_fault.Memory _) o is front = subst (λ (z : Outcome). WritesImages old new whole z) (sym is) front
+
+-- a fault of the sink has its cause
+pub fault_cause : (X : Type 0) (f g : ℕ) (fault : PutFault) (o : Outcome) → o ≡ fault_outcome fault → WriteCause {X = X} f g (Err fault) → Causes 0 0 f g o
+fault_cause X f g put_fault.Failed o is cause = subst (λ (z : Outcome). Causes 0 0 f g z) (sym is) cause
+fault_cause X f g (put_fault.Memory _) o is cause = subst (λ (z : Outcome). Causes 0 0 f g z) (sym is) tt
+
+-- ---- what was written
 
 -- the words are no matter of it
 pub some_words : (P : List ℕ → Type 0) (wanted : Use) (old new : Option (List ℕ)) (o : Outcome) → WritesSome P old new o → TellsMisfit (Ok wanted) o

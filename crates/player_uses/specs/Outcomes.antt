@@ -4,11 +4,18 @@ use Rattle.std.specs.Fmt.{signed_decimal}
 use Rattle.std.specs.Io.KnownBytes.{Appends}
 use Rattle.byte_io.specs.Counts.{Rose}
 use Rattle.byte_io.specs.Pieces.{GainsPrefix}
+use Rattle.byte_io.specs.declared.writing.PutFault.{PutFault}
+use Rattle.byte_io.specs.declared.writing.PutFault.TheVariants as put_fault
 use Rattle.page_layers.specs.declared.fault.EditFault.{EditFault}
 use Rattle.page_layers.specs.declared.fault.EditFault.TheVariants as fault
 use Rattle.player_uses.specs.declared.outcome.Outcome.{Outcome}
 use Rattle.script_json.specs.declared.fault.ShapeFault.{ShapeFault}
 use Rattle.player_uses.specs.declared.outcome.Outcome.TheVariants.{Done, Usage, Json, Shape, Script, ReadFault, WriteFault, TooLong, BadRecording, No, Memory, NoPicture}
+
+-- how a run ends that could not put all
+abbrev pub fault_outcome : PutFault → Outcome
+fault_outcome put_fault.Failed = WriteFault
+fault_outcome (put_fault.Memory _) = Memory
 
 -- the status with which the program exits
 abbrev pub status_of : Outcome → ℕ

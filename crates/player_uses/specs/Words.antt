@@ -51,27 +51,7 @@ abbrev pub use_of : List (List ℕ) → Result Use ℕ
 use_of [] = Err 0
 use_of (w ∷ ws) = if bytes_eq w (codes "step") then with_number workers_in Step ws else after_other w ws
 
--- the use is `play N`, the only one that may wait without end
-abbrev pub is_play : Use → Bool
-is_play (Play workers) = true
-is_play _ = false
-
--- the words are those of `play N`, the use that may wait
-abbrev pub asks_play : Result Use ℕ → Bool
-asks_play (Ok wanted) = is_play wanted
-asks_play (Err word) = false
-
--- the use is `serve N`, the only one that talks with a client
-abbrev pub is_serve : Use → Bool
-is_serve (Serve workers) = true
-is_serve _ = false
-
--- the words are those of `serve N`
-abbrev pub asks_serve : Result Use ℕ → Bool
-asks_serve (Ok wanted) = is_serve wanted
-asks_serve (Err word) = false
-
--- the use is one of these two
+-- the use is `play N`, the only one that may wait without end, or `serve N`, the only one that talks with a client
 abbrev pub needs_more : Use → Bool
 needs_more (Play workers) = true
 needs_more (Serve workers) = true

@@ -6,17 +6,15 @@ ghost use Rattle.player_uses.specs.Outputs.{WritesSome};
 
 use crate::outcome::Outcome;
 use byte_io::Sink;
-use thread_pieces::{WriteStop, put_all};
 
-/// Writes a file: `Done`, `WriteFault` where the sink failed, `Memory` where there was none.
+/// Writes a file: `Done`, `WriteFault` if the sink failed, `Memory` if there was none.
 pub fn put_file<K: Sink>(file: &[u8], out: &mut K) -> Outcome
     ensures file { WritesSome (λ whole. whole ≡ file.now) (K.held out.old) (K.held out.new) result }
     ensures grows { K.faults out.old ≤ K.faults out.new }
     ensures cause { Causes 0 0 (K.faults out.old) (K.faults out.new) result }
 {
-    match put_all(out, file) {
+    match out.put(file) {
         Ok(()) => Outcome::Done,
-        Err(WriteStop::Fault) => Outcome::WriteFault,
-        Err(WriteStop::Memory) => Outcome::Memory,
+        Err(fault) => Outcome::from(fault),
     }
 }

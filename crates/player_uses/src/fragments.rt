@@ -1,8 +1,7 @@
 //! Lines made of texts and numbers, put without taking memory.
 
 ghost use Rattle.std.specs.Prelude.{◌≤◌, flat_map};
-ghost use Rattle.byte_io.specs.Pieces.{PutCause};
-ghost use Rattle.thread_pieces.specs.Writing.{PutsAll};
+ghost use Rattle.byte_io.specs.Pieces.{PutCause, PutsAll};
 ghost use Rattle.player_uses.specs.inner.Fragments.{fragment_text};
 
 use byte_io::{PutFault, Sink};
@@ -13,7 +12,7 @@ use itoa::Buffer;
 pub enum Fragment {
     /// These bytes.
     Text(&'static [u8]),
-    /// A number in plain decimal, with `-` in front where it is below 0.
+    /// A number in plain decimal, with `-` in front if it is below 0.
     Number(i64),
     /// A count in plain decimal.
     Count(u64),

@@ -11,7 +11,6 @@ use byte_io::Sink;
 use script_generator::script_of_number;
 use script_json::print_script;
 use std::alloc::{AllocError, Global};
-use thread_pieces::{WriteStop, put_all};
 
 // The canonical text of a number's script, and a newline.
 fn text_of_number(alloc: Global, number: u64) -> Result<Vec<u8>, AllocError>
@@ -32,9 +31,8 @@ pub fn run_gen<K: Sink>(alloc: Global, number: u64, out: &mut K) -> Outcome
     let Ok(text) = text_of_number(alloc, number) else {
         return Outcome::Memory;
     };
-    match put_all(out, text.as_slice()) {
+    match out.put(text.as_slice()) {
         Ok(()) => Outcome::Done,
-        Err(WriteStop::Fault) => Outcome::WriteFault,
-        Err(WriteStop::Memory) => Outcome::Memory,
+        Err(fault) => Outcome::from(fault),
     }
 }

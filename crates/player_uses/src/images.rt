@@ -1,7 +1,7 @@
 //! The images of a recording, written one after another.
 
 ghost use Rattle.std.specs.Prelude.{◌≡◌, ◌≤◌, length, flat_map, Ok, IfSome, IfErr};
-ghost use Rattle.thread_pieces.specs.Writing.{PutsAll, WriteCause};
+ghost use Rattle.byte_io.specs.Pieces.{PutsAll, WriteCause};
 ghost use Rattle.recording_text.specs.Spans.{AreWithin, IsWithinBytes, span_bytes};
 ghost use Rattle.player_uses.specs.Answers.{TellsMisfit, AnswersImages, MayAnswer};
 ghost use Rattle.player_uses.specs.Outputs.{DeliversImages};
@@ -13,11 +13,10 @@ ghost use Rattle.player_uses.specs.inner.Recordings.{RecordingFrom, WritesImages
 use crate::Use;
 use crate::input::{RECORDING_LIMIT, ReadStop, read_all};
 use crate::outcome::Outcome;
-use byte_io::{Sink, Source};
+use byte_io::{PutFault, Sink, Source};
 use recording_check::{RecordingFault, read_images};
 use recording_text::ImageSpan;
 use std::alloc::Global;
-use thread_pieces::{WriteStop, put_all};
 
 // The bytes of a recording, and where its images stand in them.
 #[derive(Drop)]
@@ -36,17 +35,18 @@ fn image_in(bytes: &[u8], span: ImageSpan) -> &[u8]
 }
 
 // Puts one image.
-fn put_image<K: Sink>(out: &mut K, bytes: &[u8], span: ImageSpan) -> Result<(), WriteStop>
+#[tactic(auto, using(byte_io::proofs::Puts::piece_cause))]
+fn put_image<K: Sink>(out: &mut K, bytes: &[u8], span: ImageSpan) -> Result<(), PutFault>
     requires { IsWithinBytes (length bytes.now) span }
     ensures bytes { PutsAll (K.held out.old) (K.held out.new) (span_bytes bytes.now span) result }
     ensures grows { K.faults out.old ≤ K.faults out.new }
     ensures cause { WriteCause (K.faults out.old) (K.faults out.new) result }
 {
-    put_all(out, image_in(bytes, span))
+    out.put(image_in(bytes, span))
 }
 
 // Puts images one after another, each as it stands in the recording.
-fn put_images<K: Sink>(out: &mut K, bytes: &[u8], spans: &[ImageSpan]) -> Result<(), WriteStop>
+fn put_images<K: Sink>(out: &mut K, bytes: &[u8], spans: &[ImageSpan]) -> Result<(), PutFault>
     requires { AreWithin (length bytes.now) spans.now }
     ensures bytes { PutsAll (K.held out.old) (K.held out.new) (flat_map (span_bytes bytes.now) spans.now) result }
     ensures grows { K.faults out.old ≤ K.faults out.new }
@@ -73,7 +73,9 @@ fn find_images<S: Source>(alloc: Global, source: &mut S) -> Result<Images, Outco
 {
     let bytes = match read_all(alloc, source, RECORDING_LIMIT) {
         Ok(bytes) => bytes,
-        Err(ReadStop::TooLong) => return Err(Outcome::TooLong { limit: 268435456 }),
+        Err(ReadStop::TooLong) => return Err(Outcome::TooLong {
+            limit: RECORDING_LIMIT as u64,
+        }),
         Err(ReadStop::Fault) => return Err(Outcome::ReadFault),
         Err(ReadStop::Memory) => return Err(Outcome::Memory),
     };
@@ -93,8 +95,7 @@ fn write_images<K: Sink>(out: &mut K, images: &Images) -> Outcome
 {
     match put_images(out, images.bytes.as_slice(), images.spans.as_slice()) {
         Ok(()) => Outcome::Done,
-        Err(WriteStop::Fault) => Outcome::WriteFault,
-        Err(WriteStop::Memory) => Outcome::Memory,
+        Err(fault) => Outcome::from(fault),
     }
 }
 

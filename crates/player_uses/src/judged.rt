@@ -44,7 +44,9 @@ pub fn run_check<S: Source>(alloc: Global, source: &mut S) -> Outcome
 {
     match read_all(alloc, source, RECORDING_LIMIT) {
         Ok(bytes) => outcome_of(alloc, bytes.as_slice()),
-        Err(ReadStop::TooLong) => Outcome::TooLong { limit: 268435456 },
+        Err(ReadStop::TooLong) => Outcome::TooLong {
+            limit: RECORDING_LIMIT as u64,
+        },
         Err(ReadStop::Fault) => Outcome::ReadFault,
         Err(ReadStop::Memory) => Outcome::Memory,
     }

@@ -1,8 +1,7 @@
 //! The line that tells of an outcome.
 
 ghost use Rattle.std.specs.Prelude.{◌≡◌, ◌≤◌, ◌∷◌, [], flat_map};
-ghost use Rattle.byte_io.specs.Pieces.{PutCause};
-ghost use Rattle.thread_pieces.specs.Writing.{PutsAll};
+ghost use Rattle.byte_io.specs.Pieces.{PutCause, PutsAll};
 ghost use Rattle.player_uses.specs.inner.Fragments.{fragment_text};
 ghost use Rattle.player_uses.specs.Outcomes.{joined_texts, fault_text, refused_text, shape_text, line_of, Told};
 

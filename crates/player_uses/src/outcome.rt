@@ -4,6 +4,7 @@ ghost use Rattle.std.specs.Prelude.{◌≡◌};
 ghost use Rattle.player_uses.specs.Outcomes as outcomes;
 ghost use Rattle.player_uses.specs.Outcomes.{status_of};
 
+use byte_io::PutFault;
 use page_layers::EditFault;
 use script_json::ShapeFault;
 
@@ -15,7 +16,7 @@ pub enum Outcome {
     Done,
     /// The words fit none of the program's uses.
     Usage {
-        /// The index of the first word that, with those before it, begins no use; where there is no
+        /// The index of the first word that, with those before it, begins no use; if there is no
         /// such word, more words are needed, and this is their count.
         word: u32,
     },
@@ -55,6 +56,19 @@ pub enum Outcome {
     Memory,
     /// No draw of the script gave a picture.
     NoPicture,
+}
+
+impl From<PutFault> for Outcome {
+    ghost use Rattle.player_uses.specs.Outcomes.{fault_outcome};
+
+    ghost from_gives = { λ fault outcome. outcome ≡ fault_outcome fault };
+
+    fn from(fault: PutFault) -> Outcome {
+        match fault {
+            PutFault::Failed => Outcome::WriteFault,
+            PutFault::Memory(_) => Outcome::Memory,
+        }
+    }
 }
 
 impl Outcome {

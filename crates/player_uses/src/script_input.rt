@@ -17,8 +17,8 @@ use std::alloc::Global;
 /// The greatest number of bytes of a script.
 pub const SCRIPT_LIMIT: usize = 16777216;
 
-/// The script in a text of at most [`SCRIPT_LIMIT`] bytes, or why there is none: `Json` where the bytes are no JSON text,
-/// `Shape` where their value is no script, `Script` where a command of it is refused, and `Memory`.
+/// The script in a text of at most [`SCRIPT_LIMIT`] bytes, or why there is none: `Json` if the bytes are no JSON text,
+/// `Shape` if their value is no script, `Script` if a command of it is refused, and `Memory`.
 pub fn script_in(alloc: Global, bytes: &[u8]) -> Result<Script, Outcome>
     requires { length bytes.now ≤ script_limit }
     ensures script { ScriptIn bytes.now result }
@@ -44,8 +44,8 @@ pub fn script_in(alloc: Global, bytes: &[u8]) -> Result<Script, Outcome>
     }
 }
 
-/// Reads the source to its end, and the script in it; or tells why there is none, as [`script_in`] does, by `TooLong` where
-/// the source has more than [`SCRIPT_LIMIT`] bytes, and by `ReadFault` where it failed.
+/// Reads the source to its end, and the script in it; or tells why there is none, as [`script_in`] does, by `TooLong` if
+/// the source has more than [`SCRIPT_LIMIT`] bytes, and by `ReadFault` if it failed.
 pub fn read_script_from<S: Source>(alloc: Global, source: &mut S) -> Result<Script, Outcome>
     ensures script { ScriptFrom (S.left source.old) (S.left source.new) result }
     ensures reads { TakenAtMost (script_limit + 1) (S.left source.old) (S.left source.new) }
@@ -56,7 +56,9 @@ pub fn read_script_from<S: Source>(alloc: Global, source: &mut S) -> Result<Scri
 {
     match read_all(alloc, source, SCRIPT_LIMIT) {
         Ok(bytes) => script_in(alloc, bytes.as_slice()),
-        Err(ReadStop::TooLong) => Err(Outcome::TooLong { limit: 16777216 }),
+        Err(ReadStop::TooLong) => Err(Outcome::TooLong {
+            limit: SCRIPT_LIMIT as u64,
+        }),
         Err(ReadStop::Fault) => Err(Outcome::ReadFault),
         Err(ReadStop::Memory) => Err(Outcome::Memory),
     }

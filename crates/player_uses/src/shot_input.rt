@@ -32,7 +32,7 @@ fn inputs_for(alloc: Global, frames: u32) -> Result<Vec<Input>, AllocError>
     Ok(inputs)
 }
 
-// These inputs; where there is none, those that ask for a picture of a page after this number of main frames.
+// These inputs; if there is none, those that ask for a picture of a page after this number of main frames.
 fn inputs_or_shot(alloc: Global, frames: u32, inputs: Vec<Input>) -> Result<Vec<Input>, AllocError>
     ensures { IfOk result (λ asked. asked.items ≡ shot_inputs frames inputs.items) }
 {
@@ -43,7 +43,7 @@ fn inputs_or_shot(alloc: Global, frames: u32, inputs: Vec<Input>) -> Result<Vec<
     }
 }
 
-// The parts of a script, asked for its picture where they ask for nothing.
+// The parts of a script, asked for its picture if they ask for nothing.
 #[tactic(auto, using(crate::proofs::AskedScripts::count_fits, crate::proofs::AskedScripts::asked_parts))]
 fn asked(alloc: Global, mut parts: ScriptParts) -> Result<ScriptParts, AllocError>
     requires { is_in_ranges (script_of parts) ≡ true }
@@ -115,7 +115,7 @@ fn shot_in(alloc: Global, bytes: &[u8]) -> Result<Script, Outcome>
     }
 }
 
-/// Reads the source to its end, and the script in it, asked for its picture where it asks for nothing; or tells why there
+/// Reads the source to its end, and the script in it, asked for its picture if it asks for nothing; or tells why there
 /// is none, as [`read_script_from`](crate::read_script_from) does.
 #[tactic(auto, using(crate::proofs::AskedShots::shot_from))]
 pub fn read_shot_from<S: Source>(alloc: Global, source: &mut S) -> Result<Script, Outcome>
@@ -128,7 +128,9 @@ pub fn read_shot_from<S: Source>(alloc: Global, source: &mut S) -> Result<Script
 {
     match read_all(alloc, source, SCRIPT_LIMIT) {
         Ok(bytes) => shot_in(alloc, bytes.as_slice()),
-        Err(ReadStop::TooLong) => Err(Outcome::TooLong { limit: 16777216 }),
+        Err(ReadStop::TooLong) => Err(Outcome::TooLong {
+            limit: SCRIPT_LIMIT as u64,
+        }),
         Err(ReadStop::Fault) => Err(Outcome::ReadFault),
         Err(ReadStop::Memory) => Err(Outcome::Memory),
     }

@@ -9,25 +9,25 @@ ghost use Rattle.player_uses.specs.inner.Fragments.{fragment_text};
 use crate::draw_counts::tally_of;
 use crate::fragments::{Fragment, put_fragments};
 use crate::outcome::Outcome;
-use byte_io::{PutFault, Sink, SumSink};
+use byte_io::{Sink, SumSink};
 use impl_log::KeptHistory;
 
 /// The counts of a run and of its recording.
 #[derive(Clone, Copy, Drop)]
 pub struct Summary {
-    /// how many events it has
+    /// How many events it has.
     pub events: u64,
-    /// how many images its draws have
+    /// How many images its draws have.
     pub images: u64,
-    /// how many tiles its draws lack
+    /// How many tiles its draws lack.
     pub missing: u64,
-    /// how many bytes its recording has
+    /// How many bytes its recording has.
     pub bytes: u64,
-    /// their sum modulo 2^64
+    /// Their sum modulo 2^64.
     pub sum: u64,
 }
 
-/// Counts a run, of which the sink was given the recording; None only where entries were forgotten, or the number of
+/// Counts a run, of which the sink was given the recording; None only if entries were forgotten, or the number of
 /// images or of missing tiles is 2^64 or more: never so in a run that keeps all, whose events and missing tiles stand
 /// in memory.
 pub fn summary_of(history: &KeptHistory, sink: &SumSink) -> Option<Summary>
@@ -66,7 +66,7 @@ fn line(summary: Summary) -> [Fragment; 11]
     ]
 }
 
-/// Writes the line of the counts: `Done`, `WriteFault` where the sink failed, `Memory` where there was none.
+/// Writes the line of the counts: `Done`, `WriteFault` if the sink failed, `Memory` if there was none.
 pub fn put_summary<K: Sink>(out: &mut K, summary: Summary) -> Outcome
     ensures output { WritesSome (λ whole. whole ≡ summary_line summary) (K.held out.old) (K.held out.new) result }
     ensures grows { K.faults out.old ≤ K.faults out.new }
@@ -74,7 +74,6 @@ pub fn put_summary<K: Sink>(out: &mut K, summary: Summary) -> Outcome
 {
     match put_fragments(out, &line(summary)) {
         Ok(()) => Outcome::Done,
-        Err(PutFault::Failed) => Outcome::WriteFault,
-        Err(PutFault::Memory(_)) => Outcome::Memory,
+        Err(fault) => Outcome::from(fault),
     }
 }

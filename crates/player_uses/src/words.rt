@@ -1,6 +1,6 @@
 //! The words of the command line.
 
-ghost use Rattle.std.specs.Prelude.{◌≡◌, ◌≤◌, ◌^◌, ◌+◌, ◌-◌, ◌*◌, Ok, is_some, IfOk, IfSome, MatchOption, decimal, map, string_bytes};
+ghost use Rattle.std.specs.Prelude.{◌≡◌, ◌≤◌, ◌^◌, ◌+◌, ◌-◌, ◌*◌, IfOk, MatchOption, decimal, map, string_bytes};
 ghost use Rattle.std.specs.Str.{bytes_eq};
 ghost use Rattle.player_uses.specs.Words as words;
 ghost use Rattle.player_uses.specs.Words.{IsFew};
@@ -52,48 +52,6 @@ pub enum Use {
     },
 }
 
-impl Use {
-    // The number of raster workers of `play N`; None for other uses.
-    fn players(self) -> Option<u32>
-        requires { IsFew self }
-        ensures play { is_some result ≡ words.is_play self }
-        ensures workers { IfSome result (λ workers. self ≡ Use.Play workers) }
-        ensures few { IfSome result (λ workers. (1 ≤ workers) × (workers ≤ 16)) }
-    {
-        match self {
-            Use::Play { workers } => Some(workers),
-            Use::Step { .. }
-            | Use::Gen { .. }
-            | Use::Demo { .. }
-            | Use::Film { .. }
-            | Use::Shot { .. }
-            | Use::Frames
-            | Use::Check
-            | Use::Serve { .. } => None,
-        }
-    }
-
-    // The number of raster workers of `serve N`; None for other uses.
-    fn servers(self) -> Option<u32>
-        requires { IsFew self }
-        ensures serve { is_some result ≡ words.is_serve self }
-        ensures workers { IfSome result (λ workers. self ≡ Use.Serve workers) }
-        ensures few { IfSome result (λ workers. (1 ≤ workers) × (workers ≤ 16)) }
-    {
-        match self {
-            Use::Serve { workers } => Some(workers),
-            Use::Step { .. }
-            | Use::Play { .. }
-            | Use::Gen { .. }
-            | Use::Demo { .. }
-            | Use::Film { .. }
-            | Use::Shot { .. }
-            | Use::Frames
-            | Use::Check => None,
-        }
-    }
-}
-
 // Whether two texts are the same.
 fn is_same(a: &str, b: &str) -> bool
     ensures { result ≡ bytes_eq a.now b.now }
@@ -101,7 +59,7 @@ fn is_same(a: &str, b: &str) -> bool
     a == b
 }
 
-// The next value, where a digit stands after it; None where it does not fit.
+// The next value, if a digit stands after it; None if it does not fit.
 fn value_behind(value: u64, digit: u8) -> Option<u64>
     ensures { MatchOption result (2 ^ 64 ≤ value * 10 + (digit - 48)) (λ n. n ≡ value * 10 + (digit - 48)) }
 {
@@ -109,7 +67,7 @@ fn value_behind(value: u64, digit: u8) -> Option<u64>
     tens.checked_add(u64::from(digit.saturating_sub(48)))
 }
 
-// What the digits of a word say; None where it does not fit.
+// What the digits of a word say; None if it does not fit.
 fn value_of(word: &[u8]) -> Option<u64>
     ensures { MatchOption result (2 ^ 64 ≤ words.digits_value 0 word.now) (λ n. n ≡ words.digits_value 0 word.now) }
 {
@@ -148,7 +106,7 @@ fn number_of(word: &str) -> Option<u64>
     }
 }
 
-// The number of raster workers that a word is, where it is one.
+// The number of raster workers that a word is, if it is one.
 fn workers_of(word: &str) -> Option<u32>
     ensures { result ≡ words.workers_in word.now }
 {
@@ -158,7 +116,7 @@ fn workers_of(word: &str) -> Option<u32>
     }
 }
 
-// The use, where no word is left; else the index of the next one.
+// The use, if no word is left; else the index of the next one.
 fn no_more(wanted: Use, index: u32, rest: &[String]) -> Result<Use, u32>
     ensures { result ≡ words.no_more_words wanted index (map string_bytes rest.now) }
 {
@@ -286,7 +244,7 @@ fn after_other(first: &str, rest: &[String]) -> Result<Use, u32>
 }
 
 /// What the words ask for; or the index of the first word that, with those before it, begins no use of
-/// the program. Where there is no such word but more words are needed, it is their count.
+/// the program. If there is no such word but more words are needed, it is their count.
 pub fn use_of(given: &[String]) -> Result<Use, u32>
     ensures found { result ≡ words.use_of (map string_bytes given.now) }
     ensures few { IfOk result IsFew }
@@ -295,29 +253,5 @@ pub fn use_of(given: &[String]) -> Result<Use, u32>
         [first, rest @ ..] if is_same(first.as_str(), "step") => after_step(rest),
         [first, rest @ ..] => after_other(first.as_str(), rest),
         _ => Err(0),
-    }
-}
-
-/// The number of raster workers of `play N`; None where the words are others.
-pub fn players(given: &[String]) -> Option<u32>
-    ensures play { is_some result ≡ words.asks_play (words.use_of (map string_bytes given.now)) }
-    ensures workers { IfSome result (λ workers. words.use_of (map string_bytes given.now) ≡ Ok (Use.Play workers)) }
-    ensures few { IfSome result (λ workers. (1 ≤ workers) × (workers ≤ 16)) }
-{
-    match use_of(given) {
-        Ok(wanted) => wanted.players(),
-        Err(_) => None,
-    }
-}
-
-/// The number of raster workers of `serve N`; None where the words are others.
-pub fn servers(given: &[String]) -> Option<u32>
-    ensures serve { is_some result ≡ words.asks_serve (words.use_of (map string_bytes given.now)) }
-    ensures workers { IfSome result (λ workers. words.use_of (map string_bytes given.now) ≡ Ok (Use.Serve workers)) }
-    ensures few { IfSome result (λ workers. (1 ≤ workers) × (workers ≤ 16)) }
-{
-    match use_of(given) {
-        Ok(wanted) => wanted.servers(),
-        Err(_) => None,
     }
 }

@@ -1,10 +1,10 @@
 -- What a sink gained by a turn.
 use Rattle.std.proofs.Common.{◌≡◌, ℕ, List, [], ◌++◌, append-nil, sym, subst}
-use Rattle.std.specs.Prelude.{Option}
+use Rattle.std.specs.Prelude.{Option, Err}
 use Rattle.std.specs.Io.KnownBytes.{Appends}
-use Rattle.byte_io.specs.Pieces.{GainsPrefix}
-use Rattle.thread_pieces.specs.declared.writing.WriteStop.{WriteStop}
-use Rattle.thread_pieces.specs.declared.writing.WriteStop.TheVariants as stop
+use Rattle.byte_io.specs.Pieces.{GainsPrefix, PutCause}
+use Rattle.byte_io.specs.declared.writing.PutFault.{PutFault}
+use Rattle.byte_io.specs.declared.writing.PutFault.TheVariants as put_fault
 use Rattle.thread_pieces.proofs.Gains.{appends_nothing, gains_both, gains_front, gains_longer}
 use Rattle.proxy_threads.specs.declared.turned.Turned.{Turned}
 use Rattle.proxy_threads.specs.declared.turned.Turned.TheVariants as turned
@@ -20,9 +20,14 @@ wrote_behind turned.Memory old mid new a b first more = gains_front old mid new 
 wrote_behind turned.WriteFault old mid new a b first more = gains_front old mid new a b [] (a ++ b) first more (append-nil (a ++ b))
 
 -- a prefix of some bytes is one of those and others
-pub wrote_refused : (z : WriteStop) (old new : Option (List ℕ)) (a b : List ℕ) → GainsPrefix old new a → Wrote old new (a ++ b) (answer_at z)
-wrote_refused stop.Fault old new a b gains = gains_longer old new a b gains
-wrote_refused stop.Memory old new a b gains = gains_longer old new a b gains
+pub wrote_refused : (z : PutFault) (old new : Option (List ℕ)) (a b : List ℕ) → GainsPrefix old new a → Wrote old new (a ++ b) (answer_at z)
+wrote_refused put_fault.Failed old new a b gains = gains_longer old new a b gains
+wrote_refused (put_fault.Memory _) old new a b gains = gains_longer old new a b gains
+
+-- and a fault of it has its cause
+pub refused_cause : (X : Type 0) (f g r s : ℕ) (z : PutFault) → PutCause {X = X} f g r s (Err z) → FaultCause f g (answer_at z)
+refused_cause X f g r s put_fault.Failed cause = cause
+refused_cause X f g r s (put_fault.Memory _) cause = tt
 
 -- a sink that holds what it held has gained nothing
 pub appends_none : (old new : Option (List ℕ)) → new ≡ old → Appends old new []

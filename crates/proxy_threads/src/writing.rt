@@ -10,16 +10,16 @@ ghost use Rattle.proxy_threads.specs.inner.Steps.{Answers, answer_at, image_in, 
 use crate::playing::Played;
 use crate::turned::Turned;
 use byte_io::PutFault;
-use thread_pieces::{SceneSink, WriteStop, put_all};
+use thread_pieces::SceneSink;
 use viz_scene::Scene;
 
-// The answer where a piece was not put.
-fn refused(stop: WriteStop) -> Turned
-    ensures { result ≡ answer_at stop }
+// The answer if a piece was not put.
+fn refused(fault: PutFault) -> Turned
+    ensures { result ≡ answer_at fault }
 {
-    match stop {
-        WriteStop::Fault => Turned::WriteFault,
-        WriteStop::Memory => Turned::Memory,
+    match fault {
+        PutFault::Failed => Turned::WriteFault,
+        PutFault::Memory(_) => Turned::Memory,
     }
 }
 
@@ -48,7 +48,7 @@ fn put_nothing<K: SceneSink>(out: &mut K)
     out.pass_on();
 }
 
-// The answer where the compositor has nothing to do.
+// The answer if the compositor has nothing to do.
 fn wait<K: SceneSink>(out: &mut K) -> Turned
     ensures bytes { Appends (K.held out.old) (K.held out.new) [] }
     ensures answer { result ≡ Blocked }
@@ -84,14 +84,14 @@ fn put_played<K: SceneSink>(out: &mut K, lines: &[u8], played: Played) -> Turned
     ensures cause { FaultCause (K.faults out.old) (K.faults out.new) result }
     ensures place { K.place out.new ≡ K.place out.old }
 {
-    match put_all(out, lines) {
+    match out.put(lines) {
         Ok(()) => show(out, played),
-        Err(stop) => refused(stop),
+        Err(fault) => refused(fault),
     }
 }
 
 /// Puts the lines, and then the image of what was drawn, if anything was, and answers for what was played.
-/// Where memory was refused before, nothing is put.
+/// If memory was refused before, nothing is put.
 pub(crate) fn write<K: SceneSink>(out: &mut K, lines: &[u8], played: Played) -> Turned
     ensures bytes { Wrote (K.held out.old) (K.held out.new) (text_for played lines.now) result }
     ensures answer { Answers played result }

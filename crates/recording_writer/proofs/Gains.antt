@@ -4,7 +4,7 @@ use Rattle.std.specs.Prelude.{Option, Result, Ok, Err}
 use Rattle.std.specs.Io.KnownBytes.{Appends}
 use Rattle.viz_scene.specs.Views.{SceneView}
 use Rattle.thread_pieces.specs.Scenes.{scene_image}
-use Rattle.thread_pieces.specs.Writing.{PutsAll}
+use Rattle.byte_io.specs.Pieces.{PutsAll}
 use Rattle.thread_pieces.proofs.Gains.{gains_both, gains_front}
 use Rattle.recording_writer.specs.Images.{scene_images}
 use Rattle.recording_writer.specs.Parts.{Half, WritesPart}

@@ -9,13 +9,13 @@ ghost use Rattle.impl_log.specs.Kept.{forgettable};
 ghost use Rattle.impl_log.specs.Runs.{past};
 ghost use Rattle.thread_pieces.specs.Scenes.{image_if};
 ghost use Rattle.thread_pieces.specs.Shots.{all_shown};
-ghost use Rattle.thread_pieces.specs.Writing.{PutsAll, WriteCause};
+ghost use Rattle.byte_io.specs.Pieces.{PutsAll, WriteCause};
 ghost use Rattle.recording_writer.specs.Batches.{held_of};
 ghost use Rattle.recording_writer.specs.Scenes.{AllCome, Comes, left_behind};
 
 use crate::draws::next_scene;
 use crate::image_painter::ImagePainter;
-use byte_io::Sink;
+use byte_io::{PutFault, Sink};
 use impl_core::Core;
 use model_history::Entry;
 use recording_text::push_event;
@@ -24,26 +24,17 @@ use std::marker::Sync;
 use std::mem;
 use std::thread::Threads;
 use std::vec::IntoIter;
-use thread_pieces::{Painters, Shot, WriteStop, put_all};
+use thread_pieces::{DEALT_PIECES, GATHERED_LINES, HELD_BYTES, Painters, Shot};
 use viz_scene::Scene;
-
-// How many bytes of lines are gathered before they become a piece of their own.
-const LINES: usize = 65536;
-
-// How many bytes a batch has at most, painted, unless its last piece is larger than the one before it.
-const MOST_BYTES: u64 = 48 * 1024 * 1024;
-
-// How many pieces a painter has in a batch at most.
-const RUN: u64 = 4;
 
 /// Pieces that wait to be painted, and the lines after them.
 pub struct Batch {
     alloc: Global,
     shots: Vec<Shot>,
     lines: Vec<u8>,
-    /// how many bytes the pieces have, painted
+    /// How many bytes the pieces have, painted.
     bytes: u64,
-    /// how many the last of them has
+    /// How many the last of them has.
     last: u64,
 }
 
@@ -85,14 +76,14 @@ impl Batch {
     // How many pieces the given number of painters take at a time, each as many as the others, and at least one.
     fn share(&self, painters: u64) -> u64 {
         let size = painters.saturating_mul(self.last).max(1);
-        let run = (MOST_BYTES / size).min(RUN).max(1);
+        let run = (HELD_BYTES / size).min(DEALT_PIECES as u64).max(1);
         painters.saturating_mul(run)
     }
 
     /// Whether it has as much as the given number of painters take at a time, or a piece more as large as the last one
     /// would be too much.
     pub fn is_full(&self, painters: usize) -> bool {
-        self.bytes.saturating_add(self.last) > MOST_BYTES
+        self.bytes.saturating_add(self.last) > HELD_BYTES
             || self.shots.len() as u64 >= self.share(painters as u64)
     }
 
@@ -121,11 +112,11 @@ impl Batch {
         Ok(())
     }
 
-    // Where the lines are many, makes a piece of them.
+    // If the lines are many, makes a piece of them.
     fn cut_lines(&mut self) -> Result<(), AllocError>
         ensures { OnOk result (held_of self.new ≡ held_of self.old) }
     {
-        if self.lines.len() < LINES {
+        if self.lines.len() < GATHERED_LINES {
             return Ok(());
         }
         self.push_shot(None)
@@ -178,28 +169,29 @@ impl Batch {
         Ok(())
     }
 
-    /// Paints and puts all that waits: the pieces, and the lines after them. Where putting stops, the sink gained a prefix
+    /// Paints and puts all that waits: the pieces, and the lines after them. If putting stops, the sink gained a prefix
     /// of that. The pieces are gone then, whatever comes of it; the lines stay.
+    #[tactic(auto, using(byte_io::proofs::Puts::piece_cause, thread_pieces::proofs::Gains::blames_from))]
     pub fn put<R: Threads + Sync, K: Sink>(
         &mut self,
         rt: &R,
         painters: &mut Painters<ImagePainter>,
         out: &mut K,
-    ) -> Result<(), WriteStop>
+    ) -> Result<(), PutFault>
         ensures bytes { PutsAll (K.held out.old) (K.held out.new) (held_of self.old) result }
         ensures left { held_of self.new ≡ self.old.lines.items }
         ensures grows { K.faults out.old ≤ K.faults out.new }
         ensures cause { WriteCause (K.faults out.old) (K.faults out.new) result }
     {
         let shots = self.take_shots();
-        if let Err(stop) = painters.put(rt, shots, out) {
-            return Err(stop);
+        if let Err(fault) = painters.put(rt, shots, out) {
+            return Err(fault);
         }
-        put_all(out, self.lines.as_slice())
+        out.put(self.lines.as_slice())
     }
 }
 
-/// Paints pieces and puts them, in order. The list has none then, whatever comes of it. Where putting stops, the sink
+/// Paints pieces and puts them, in order. The list has none then, whatever comes of it. If putting stops, the sink
 /// gained a prefix of their bytes.
 pub fn put_shots<R: Threads + Sync, K: Sink>(
     rt: &R,
@@ -207,7 +199,7 @@ pub fn put_shots<R: Threads + Sync, K: Sink>(
     painters: &mut Painters<ImagePainter>,
     shots: &mut Vec<Shot>,
     out: &mut K,
-) -> Result<(), WriteStop>
+) -> Result<(), PutFault>
     ensures bytes { PutsAll (K.held out.old) (K.held out.new) (all_shown shots.old.items) result }
     ensures none { shots.new.items ≡ [] }
     ensures grows { K.faults out.old ≤ K.faults out.new }

@@ -2,15 +2,14 @@
 
 ghost use Rattle.std.specs.Prelude.{◌≤◌};
 ghost use Rattle.thread_pieces.specs.Scenes.{scene_image};
-ghost use Rattle.thread_pieces.specs.Writing.{PutsAll, WriteCause};
+ghost use Rattle.byte_io.specs.Pieces.{PutsAll, WriteCause};
 ghost use Rattle.recording_writer.specs.Images.{scene_images};
 
 use crate::image_painter::ImagePainter;
-use byte_io::Sink;
+use byte_io::{PutFault, Sink};
 use std::alloc::{AllocError, Global};
 use std::marker::Sync;
 use std::thread::Threads;
-use thread_pieces::{WriteStop, put_all};
 use viz_scene::Scene;
 
 /// What paints images and puts each, and in how many parts each is painted at most.
@@ -31,37 +30,38 @@ impl ImageWriter {
     }
 
     // Puts the image of a scene.
+    #[tactic(auto, using(byte_io::proofs::Puts::puts_piece, byte_io::proofs::Puts::piece_cause))]
     fn put_scene<R: Threads + Sync, K: Sink>(
         &mut self,
         rt: &R,
         scene: Scene,
         out: &mut K,
-    ) -> Result<(), WriteStop>
+    ) -> Result<(), PutFault>
         ensures bytes { PutsAll (K.held out.old) (K.held out.new) (scene_image scene) result }
         ensures grows { K.faults out.old ≤ K.faults out.new }
         ensures cause { WriteCause (K.faults out.old) (K.faults out.new) result }
     {
         match self.painter.paint(rt, scene, self.parts) {
-            Ok(image) => put_all(out, &image),
-            Err(_) => Err(WriteStop::Memory),
+            Ok(image) => out.put(&image),
+            Err(refused) => Err(PutFault::Memory(refused)),
         }
     }
 
-    /// Puts the images of scenes, one after another. Where putting stops, the sink gained a prefix of them.
+    /// Puts the images of scenes, one after another. If putting stops, the sink gained a prefix of them.
     pub fn put_scenes<R: Threads + Sync, K: Sink>(
         &mut self,
         rt: &R,
         scenes: Vec<Scene>,
         out: &mut K,
-    ) -> Result<(), WriteStop>
+    ) -> Result<(), PutFault>
         ensures bytes { PutsAll (K.held out.old) (K.held out.new) (scene_images scenes.items) result }
         ensures grows { K.faults out.old ≤ K.faults out.new }
         ensures cause { WriteCause (K.faults out.old) (K.faults out.new) result }
     {
         let mut queue = scenes.into_iter();
         while let Some(scene) = queue.next() {
-            if let Err(stop) = self.put_scene(rt, scene, out) {
-                return Err(stop);
+            if let Err(fault) = self.put_scene(rt, scene, out) {
+                return Err(fault);
             }
         }
         Ok(())

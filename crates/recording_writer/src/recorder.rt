@@ -7,7 +7,7 @@ ghost use Rattle.model_history.specs.Scripts.{ScriptModel};
 ghost use Rattle.model_history.specs.declared.history.Entry.{Entry};
 ghost use Rattle.impl_log.specs.Kept.{forgettable};
 ghost use Rattle.impl_log.specs.Runs.{past};
-ghost use Rattle.thread_pieces.specs.Writing.{PutsAll, WriteCause};
+ghost use Rattle.byte_io.specs.Pieces.{PutsAll, WriteCause};
 ghost use Rattle.recording_writer.specs.Parts.{WritesPart};
 ghost use Rattle.recording_writer.specs.Repeats.{Keeps};
 ghost use Rattle.thread_pieces.specs.Scenes.{scene_image, image_if};
@@ -17,7 +17,7 @@ ghost use Rattle.recording_writer.specs.Steps.{DrawsOn, WritesOn};
 use crate::draws::next_scene;
 use crate::last_draw::LastDraw;
 use crate::writing::{flush, flush_many, put_behind};
-use byte_io::Sink;
+use byte_io::{PutFault, Sink};
 use impl_core::Core;
 use impl_log::KeptHistory;
 use model_history::Entry;
@@ -27,17 +27,16 @@ use std::marker::Sync;
 use std::mem;
 use std::thread::Threads;
 use std::vec::IntoIter;
-use thread_pieces::WriteStop;
 use viz_scene::Scene;
 
 /// What writes entries one after another: the lines that it holds back, and the picture of the last draw.
 pub struct Recorder {
     alloc: Global,
-    /// the lines that were not put yet
+    /// The lines that were not put yet.
     lines: Vec<u8>,
-    /// the last draw, with its picture
+    /// The last draw, with its picture.
     last: LastDraw,
-    /// in how many parts a picture is made at most
+    /// In how many parts a picture is made at most.
     parts: usize,
 }
 
@@ -89,8 +88,8 @@ impl Recorder {
     }
 
     /// Writes the two lines before the events, the second of which is this text of a script. The text may be long,
-    /// so it is put as it is. Where writing stops, the sink gained a prefix of the lines.
-    pub fn begin<K: Sink>(&mut self, out: &mut K, script: &[u8]) -> Result<(), WriteStop>
+    /// so it is put as it is. If writing stops, the sink gained a prefix of the lines.
+    pub fn begin<K: Sink>(&mut self, out: &mut K, script: &[u8]) -> Result<(), PutFault>
         requires { self.old.lines.items ≡ codes "cc1\n" }
         ensures bytes { WritesPart (K.held out.old) (K.held out.new) (header script.now) self.new.lines.items result }
         ensures last { self.new.last ≡ self.old.last }
@@ -102,7 +101,7 @@ impl Recorder {
         }
         match self.lines.push(b'\n') {
             Ok(()) => Ok(()),
-            Err(_) => Err(WriteStop::Memory),
+            Err(_) => Err(PutFault::Memory(AllocError)),
         }
     }
 
@@ -133,7 +132,7 @@ impl Recorder {
         at: usize,
         entry: &Entry,
         scene: Scene,
-    ) -> Result<(), WriteStop>
+    ) -> Result<(), PutFault>
         requires { slice_get history.now.entries at ≡ Some entry.now }
         ensures written { (s : ScriptModel) (h : List Entry) → Keeps s h history.now.entries self.old.last → scene_image scene ≡ image_behind s h entry.now.event → WritesOn s h history.now.entries (K.held out.old) (K.held out.new) (self.old.lines.items ++ image_behind s h entry.now.event) self.new result }
         ensures grows { K.faults out.old ≤ K.faults out.new }
@@ -141,7 +140,7 @@ impl Recorder {
     {
         match self.draw(rt, history, at, entry, scene) {
             Ok(()) => put_behind(out, &mut self.lines, self.last.painter.canvas().bytes()),
-            Err(_) => Err(WriteStop::Memory),
+            Err(refused) => Err(PutFault::Memory(refused)),
         }
     }
 
@@ -154,7 +153,7 @@ impl Recorder {
         at: usize,
         entry: &Entry,
         scene: Option<Scene>,
-    ) -> Result<(), WriteStop>
+    ) -> Result<(), PutFault>
         requires { slice_get history.now.entries at ≡ Some entry.now }
         ensures written { (s : ScriptModel) (h : List Entry) → Keeps s h history.now.entries self.old.last → image_if scene ≡ image_behind s h entry.now.event → WritesOn s h history.now.entries (K.held out.old) (K.held out.new) (self.old.lines.items ++ image_behind s h entry.now.event) self.new result }
         ensures grows { K.faults out.old ≤ K.faults out.new }
@@ -175,7 +174,7 @@ impl Recorder {
         at: usize,
         entry: &Entry,
         scenes: &mut IntoIter<Scene, Global>,
-    ) -> Result<(), WriteStop>
+    ) -> Result<(), PutFault>
         requires there { slice_get history.now.entries at ≡ Some entry.now }
         requires count { into_iter_len scenes.old ≡ length (into_iter_items scenes.old) }
         ensures written { (s : ScriptModel) (h : List Entry) → Keeps s h history.now.entries self.old.last → Comes s h entry.now (into_iter_items scenes.old) → WritesOn s h history.now.entries (K.held out.old) (K.held out.new) (self.old.lines.items ++ piece s h entry.now.event) self.new result }
@@ -189,12 +188,12 @@ impl Recorder {
                 let scene = next_scene(&entry.event, scenes);
                 self.write_shown(rt, out, history, at, entry, scene)
             }
-            Err(_) => Err(WriteStop::Memory),
+            Err(refused) => Err(PutFault::Memory(refused)),
         }
     }
 
     /// Writes the entries of a run from a place on, of which none is forgotten. The scenes are those of the draws among
-    /// them, the oldest first. Lines that are few are held back. Where writing stops, the sink gained a prefix.
+    /// them, the oldest first. Lines that are few are held back. If writing stops, the sink gained a prefix.
     pub fn write_entries<R: Threads + Sync, K: Sink>(
         &mut self,
         rt: &R,
@@ -202,7 +201,7 @@ impl Recorder {
         core: &Core,
         from: usize,
         scenes: Vec<Scene>,
-    ) -> Result<(), WriteStop>
+    ) -> Result<(), PutFault>
         requires kept { forgettable (past core.now) ≤ from }
         requires keeps { Keeps core.now.script (reverse (take from core.now.entries)) core.now.entries self.old.last }
         requires come { AllCome core.now.script (reverse (take from core.now.entries)) (drop from core.now.entries) scenes.items }
@@ -222,8 +221,8 @@ impl Recorder {
         Ok(())
     }
 
-    /// Puts the lines that are left, and holds none then. Where writing stops, the sink gained a prefix of them.
-    pub fn finish<K: Sink>(&mut self, out: &mut K) -> Result<(), WriteStop>
+    /// Puts the lines that are left, and holds none then. If writing stops, the sink gained a prefix of them.
+    pub fn finish<K: Sink>(&mut self, out: &mut K) -> Result<(), PutFault>
         ensures bytes { PutsAll (K.held out.old) (K.held out.new) self.old.lines.items result }
         ensures none { OnOk result (self.new.lines.items ≡ []) }
         ensures last { self.new.last ≡ self.old.last }

@@ -3,14 +3,12 @@ ghost use Rattle.std.specs.Prelude.{◌<◌};
 ghost use Rattle.thread_pieces.specs.Ring.{SameSink};
 
 use crate::cases::Cases;
-use byte_io::{MemSink, Sink};
+use byte_io::{MemSink, PutFault, Sink};
 use std::alloc::{AllocError, Global};
 use std::sync::Wait;
 use std::thread::{Threads, join_mut};
 use test_table::LineFault;
-use thread_pieces::{
-    Painters, Presented, RingSink, ScenePainter, SceneSink, finish, present_from, ring,
-};
+use thread_pieces::{Painters, RingSink, ScenePainter, SceneSink, finish, present_from, ring};
 use viz_scene::Scene;
 
 /// A painter that never finds memory.
@@ -63,7 +61,7 @@ fn five_through<R: Threads + Wait + Sync>(
     alloc: Global,
     cases: &mut Cases,
     out: &mut MemSink,
-) -> Result<Presented, AllocError> {
+) -> Result<Result<(), PutFault>, AllocError> {
     let (sink, presenter) = ring(alloc)?;
     let mut sink = sink;
     let mut presenter = presenter;
@@ -107,12 +105,12 @@ pub fn five_pieces_in_order<R: Threads + Wait + Sync>(
     cases.begin("five pieces");
     let mut endless = MemSink::endless(alloc);
     let presented = five_through(rt, alloc, cases, &mut endless)?;
-    cases.same("to an endless sink", &presented, &Presented::Written);
+    cases.same("to an endless sink", &presented, &Ok(()));
     let bytes = endless.bytes();
     cases.same("all in order", &bytes, &[1, 2, 3, 4, 5].as_slice());
     let mut limited = MemSink::new(alloc, 2, Vec::new(alloc));
     let presented = five_through(rt, alloc, cases, &mut limited)?;
-    cases.same("to a limited sink", &presented, &Presented::Fault);
+    cases.same("to a limited sink", &presented, &Err(PutFault::Failed));
     cases.same("two in order", &limited.bytes(), &[1, 2].as_slice());
     Ok(())
 }
@@ -138,11 +136,11 @@ pub fn served_before_the_end<R: Threads + Wait + Sync>(
     put_seventy(&mut sink, cases);
     let mut out = MemSink::endless(alloc);
     let served = presenter.serve(rt, &mut painters, &mut out);
-    cases.same("what was passed on", &served, &Presented::Written);
+    cases.same("what was passed on", &served, &Ok(()));
     cases.same("64 pieces", &out.bytes().len(), &64);
     sink.pass_on();
     let served = presenter.serve(rt, &mut painters, &mut out);
-    cases.same("the rest", &served, &Presented::Written);
+    cases.same("the rest", &served, &Ok(()));
     cases.same("all pieces", &out.bytes().len(), &70);
     Ok(())
 }
@@ -175,7 +173,7 @@ pub fn owned_pieces_in_their_turn<R: Threads + Wait + Sync>(
     let mut out = MemSink::endless(alloc);
     let mut painters: Painters<Refuser> = Painters::new(alloc, 1);
     let served = presenter.serve(rt, &mut painters, &mut out);
-    cases.same("all", &served, &Presented::Written);
+    cases.same("all", &served, &Ok(()));
     cases.same("in their turn", &out.bytes(), &[1, 2, 3, 4].as_slice());
     put
 }
@@ -191,7 +189,7 @@ pub fn thousand_pieces<R: Threads + Wait + Sync>(
     let mut out = MemSink::endless(alloc);
     let mut painters: Painters<Refuser> = Painters::new(alloc, 2);
     let presented = present_from(rt, alloc, &pieces, &mut painters, &mut out);
-    cases.same("all", &presented, &Presented::Written);
+    cases.same("all", &presented, &Ok(()));
     let wanted = joined(alloc, &pieces, 1000)?;
     cases.holds("many bytes", wanted.len() > 2_000_000);
     cases.holds("each byte", out.bytes() == wanted.as_slice());
@@ -234,12 +232,12 @@ fn four_through<R: Threads + Sync>(
     alloc: Global,
     cases: &mut Cases,
     out: &mut MemSink,
-) -> Result<Presented, AllocError> {
+) -> Result<Result<(), PutFault>, AllocError> {
     let (sink, presenter) = ring(alloc)?;
     let mut sink = sink;
     let put = put_four(alloc, &mut sink, cases);
     let mut painters: Painters<Refuser> = Painters::new(alloc, 2);
-    let served = Presented::Written;
+    let served = Ok(());
     let answer = finish(rt, sink, presenter, served, &mut painters, out);
     match put {
         Ok(()) => Ok(answer),
@@ -258,7 +256,7 @@ fn try_failing<R: Threads + Sync>(
 ) -> Result<(), AllocError> {
     let mut out = MemSink::new(alloc, 1_000_000, vec![in alloc; failing as u64]?);
     let answer = four_through(rt, alloc, cases, &mut out)?;
-    cases.same("it fails", &answer, &Presented::Fault);
+    cases.same("it fails", &answer, &Err(PutFault::Failed));
     cases.holds("the pieces before it", out.bytes() == before.as_slice());
     before.extend_from_slice(&large(alloc, failing)?)
 }

@@ -9,7 +9,7 @@ use std::sync::Wait;
 use std::sync::atomic::{AtomicU64, Ordering};
 use std::thread::{Threads, join_mut, yield_now};
 use test_table::LineFault;
-use thread_pieces::{Painters, Presented, RingSink, SceneSink, ring_within};
+use thread_pieces::{Painters, RingSink, SceneSink, ring_within};
 
 /// How often a wait looks before it is given up, and after how many looks it lets another thread run.
 const PATIENCE: u64 = 200_000_000;
@@ -90,7 +90,7 @@ fn flow_through<R: Threads + Wait + Sync, K: Sink + Send>(
     piece: &[u8],
     flow: &Flow,
     out: &mut K,
-) -> Result<(Presented, u64), AllocError> {
+) -> Result<(Result<(), PutFault>, u64), AllocError> {
     let (sink, presenter) = ring_within(alloc, 1_000_000)?;
     let mut sink = sink;
     let mut presenter = presenter;
@@ -121,7 +121,7 @@ pub fn slow_sink_holds_up<R: Threads + Wait + Sync>(
     };
     let (answer, most) = flow_through(rt, alloc, &piece, &flow, &mut out)?;
     cases.holds("a million bytes wait at most", most <= 1_000_000);
-    cases.same("all", &answer, &Presented::Written);
+    cases.same("all", &answer, &Ok(()));
     cases.same("each byte", &out.out.bytes().len(), &7_000_000);
     Ok(())
 }

@@ -2,11 +2,10 @@
 use Rattle.std.proofs.Common.{◌≡◌, ℕ, ◌≤◌, inl, inr, arith, List, [], ◌++◌, None, Some, ap, subst, sym, ◌∙◌, refl, append_assoc, append-nil}
 use Rattle.std.specs.Prelude.{Option, Result, Ok, Err}
 use Rattle.std.specs.Io.KnownBytes.{Appends}
-use Rattle.byte_io.specs.Pieces.{GainsPrefix}
+use Rattle.byte_io.specs.Pieces.{GainsPrefix, PutsAll, WriteCause}
 use Rattle.byte_io.specs.Counts.{Rose}
-use Rattle.thread_pieces.specs.Writing.{PutsAll, WriteCause}
-use Rattle.thread_pieces.specs.declared.writing.WriteStop.{WriteStop}
-use Rattle.thread_pieces.specs.declared.writing.WriteStop.TheVariants as stop
+use Rattle.byte_io.specs.declared.writing.PutFault.{PutFault}
+use Rattle.byte_io.specs.declared.writing.PutFault.TheVariants as put_fault
 
 -- a piece and then another are both together
 pub gains_both : (old mid new : Option (List ℕ)) (a b : List ℕ) → Appends old mid a → Appends mid new b → Appends old new (a ++ b)
@@ -59,7 +58,7 @@ rose_from count old new few (inl less) = inl (omega (arith, few, less))
 rose_from count old new few (inr last) = inr last
 
 -- a fault that has its cause has it from any earlier count on
-pub blames_from : {X : Type 0} (count old new : ℕ) (put : Result X WriteStop) → count ≤ old → WriteCause old new put → WriteCause count new put
+pub blames_from : {X : Type 0} (count old new : ℕ) (put : Result X PutFault) → count ≤ old → WriteCause old new put → WriteCause count new put
 blames_from count old new (Ok x) few cause = tt
-blames_from count old new (Err stop.Fault) few cause = rose_from count old new few cause
-blames_from count old new (Err stop.Memory) few cause = tt
+blames_from count old new (Err put_fault.Failed) few cause = rose_from count old new few cause
+blames_from count old new (Err (put_fault.Memory _)) few cause = tt

@@ -2,4 +2,3 @@ pub mod Answers
 pub mod Ring
 pub mod Scenes
 pub mod Shots
-pub mod Writing

@@ -17,17 +17,6 @@ const PLACES: usize = 64;
 // How many bytes of pieces may wait before the one who puts them waits.
 const MOST_WAITING: u64 = 256 * 1024 * 1024;
 
-/// What became of the pieces that were to be put into a sink.
-#[derive(Clone, Copy, Debug, Drop, PartialEq)]
-pub enum Presented {
-    /// The sink gained all of them, in order.
-    Written,
-    /// The sink failed, and gained a prefix of their bytes.
-    Fault,
-    /// Memory ran out, and the sink gained a prefix of their bytes.
-    Memory,
-}
-
 /// The end of a ring that takes bytes and scenes. A put never waits.
 #[derive(Drop)]
 pub struct RingSink {
@@ -71,7 +60,7 @@ pub struct Label {
 }
 
 /// The two ends of a new ring of 64 places, each for one piece. Nothing was put into it, nothing
-/// was taken out of it, and its end mark is not raised. The one who puts waits for space where more than 256 MiB wait.
+/// was taken out of it, and its end mark is not raised. The one who puts waits for space if more than 256 MiB wait.
 pub fn ring(alloc: Global) -> Result<(RingSink, Presenter), AllocError>
     ensures pair { IfOk result (λ r. OneRing r.0 r.1) }
     ensures empty { IfOk result (λ r. (whole r.0 ≡ []) × (bytes_taken r.1 ≡ [])) }
@@ -80,7 +69,7 @@ pub fn ring(alloc: Global) -> Result<(RingSink, Presenter), AllocError>
     ring_within(alloc, MOST_WAITING)
 }
 
-/// The same, where the one who puts waits for space once more than this many bytes wait.
+/// The same, if the one who puts waits for space once more than this many bytes wait.
 pub fn ring_within(alloc: Global, most_waiting: u64) -> Result<(RingSink, Presenter), AllocError>
     ensures pair { IfOk result (λ r. OneRing r.0 r.1) }
     ensures empty { IfOk result (λ r. (whole r.0 ≡ []) × (bytes_taken r.1 ≡ [])) }

@@ -9,6 +9,7 @@ ghost use Rattle.thread_pieces.specs.Shots.{shown};
 ghost use Rattle.thread_pieces.specs.Ring.{HasMovedAll, HasMovedKept, SameSink, ring_filled, whole};
 
 use crate::ends::{Label, RingSink};
+use crate::limits::GATHERED_LINES;
 use crate::shared::byte_count;
 use crate::{SceneSink, Shot};
 use byte_io::{PutFault, Sink};
@@ -16,9 +17,6 @@ use std::alloc::AllocError;
 use std::mem;
 use std::sync::Wait;
 use viz_scene::Scene;
-
-// How many bytes of lines are gathered before they become a piece of their own.
-const BATCH: usize = 65536;
 
 impl RingSink {
     /// Moves kept pieces into the ring, oldest first, as far as there is a place, and rings for each.
@@ -76,7 +74,7 @@ impl RingSink {
         self.kept.is_empty() && !self.producer.is_full()
     }
 
-    // Moves the lines that were gathered into the ring as a piece, where nothing is kept and there is a place.
+    // Moves the lines that were gathered into the ring as a piece, if nothing is kept and there is a place.
     fn move_lines(&mut self)
         ensures ring { SameSink self.old self.new }
         ensures bytes { whole self.new ≡ whole self.old }
@@ -113,7 +111,7 @@ impl RingSink {
         PutFault::Memory(error)
     }
 
-    // Takes in a piece: into the ring, or after the kept ones. Where memory is refused, its lines stay.
+    // Takes in a piece: into the ring, or after the kept ones. If memory is refused, its lines stay.
     fn take_in(&mut self, piece: Shot) -> Result<(), PutFault>
         requires { self.old.lines.items ≡ [] }
         ensures ring { SameSink self.old self.new }
@@ -150,7 +148,7 @@ impl RingSink {
     }
 
     // Moves kept pieces on, and waits while more bytes wait or more pieces are kept than may, and somebody takes them.
-    // Lines are moved on only where it waits.
+    // Lines are moved on only if it waits.
     fn wait_until<R: Wait>(&mut self, rt: &R, bytes: u64, pieces: usize)
         ensures ring { SameSink self.old self.new }
         ensures bytes { whole self.new ≡ whole self.old }
@@ -170,7 +168,7 @@ impl RingSink {
         unreachable!()
     }
 
-    /// Moves kept pieces into the ring as far as there is a place, and waits until it keeps none, where a presenter is
+    /// Moves kept pieces into the ring as far as there is a place, and waits until it keeps none, if a presenter is
     /// serving. What was put stays the same.
     pub fn drain<R: Wait>(&mut self, rt: &R)
         ensures ring { SameSink self.old self.new }
@@ -208,7 +206,7 @@ impl Sink for RingSink {
 
     ghost place = { ring_filled };
 
-    /// Never waits and never answers `Failed`. The bytes are gathered; where they are many, they become a piece.
+    /// Never waits and never answers `Failed`. The bytes are gathered; if they are many, they become a piece.
     fn put(&mut self, piece: &[u8]) -> Result<(), PutFault>
         ensures bytes { PutAppends (Some (whole self.old)) (Some (whole self.new)) piece.now result }
         ensures grows { 0 ≤ 0 }
@@ -219,7 +217,7 @@ impl Sink for RingSink {
     {
         match self.lines.extend_from_slice(piece) {
             Ok(()) => {
-                if self.lines.len() >= BATCH {
+                if self.lines.len() >= GATHERED_LINES {
                     self.move_all();
                 }
                 Ok(())
@@ -230,7 +228,7 @@ impl Sink for RingSink {
 }
 
 impl SceneSink for RingSink {
-    /// Never waits and never answers `Failed`. The scene becomes a piece with the bytes that were gathered; where the
+    /// Never waits and never answers `Failed`. The scene becomes a piece with the bytes that were gathered; if the
     /// ring has no place for it, it is kept, and goes before any later piece.
     fn put_scene(&mut self, scene: Scene) -> Result<(), PutFault>
         ensures bytes { PutAppends (Some (whole self.old)) (Some (whole self.new)) (scene_image scene) result }

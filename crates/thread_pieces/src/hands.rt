@@ -44,12 +44,11 @@ ghost use Rattle.std.specs.Io.KnownBytes.{Appends};
 ghost use Rattle.std.specs.Thread.{IsSync};
 ghost use Rattle.thread_pieces.specs.Scenes.{image_if};
 ghost use Rattle.thread_pieces.specs.Shots.{all_due, all_made, due_of, made_of, shown};
-ghost use Rattle.thread_pieces.specs.Writing.{PutsAll, WriteCause};
+ghost use Rattle.byte_io.specs.Pieces.{PutsAll, WriteCause};
 
 use crate::scene_painter::ScenePainter;
 use crate::shot::Shot;
-use crate::writing::{WriteStop, put_all};
-use byte_io::Sink;
+use byte_io::{PutFault, Sink};
 use std::alloc::{AllocError, Global};
 use std::marker::Sync;
 use std::mem;
@@ -62,9 +61,9 @@ pub struct Hand<P> {
     pub(crate) alloc: Global,
     pub(crate) painter: P,
     pub(crate) due: Vec<Shot>,
-    /// the bytes of the pieces that it painted last; the memory is taken again for the next ones
+    /// The bytes of the pieces that it painted last; the memory is taken again for the next ones.
     pub(crate) made: Vec<u8>,
-    /// whether the rows of the painter's image go after these bytes; so they need not be copied
+    /// Whether the rows of the painter's image go after these bytes; so they need not be copied.
     pub(crate) waits: bool,
 }
 
@@ -151,8 +150,8 @@ impl<P: ScenePainter> Hand<P> {
     }
 
     // Puts what it made.
-    #[tactic(auto, using(crate::proofs::Gains::gains_longer, crate::proofs::Gains::puts_both))]
-    fn put<K: Sink>(&self, out: &mut K) -> Result<(), WriteStop>
+    #[tactic(auto, using(byte_io::proofs::Puts::piece_stops, byte_io::proofs::Puts::puts_piece, byte_io::proofs::Puts::piece_cause, crate::proofs::Gains::gains_longer, crate::proofs::Gains::puts_both))]
+    fn put<K: Sink>(&self, out: &mut K) -> Result<(), PutFault>
         ensures bytes { PutsAll (K.held out.old) (K.held out.new) (made_of P.rows self.now) result }
         ensures grows { K.faults out.old ≤ K.faults out.new }
         ensures refusals { K.refusals out.old ≤ K.refusals out.new }
@@ -160,12 +159,12 @@ impl<P: ScenePainter> Hand<P> {
         ensures place { K.place out.new ≡ K.place out.old }
     {
         if !self.waits {
-            return put_all(out, self.made.as_slice());
+            return out.put(self.made.as_slice());
         }
-        if let Err(stop) = put_all(out, self.made.as_slice()) {
-            return Err(stop);
+        if let Err(fault) = out.put(self.made.as_slice()) {
+            return Err(fault);
         }
-        put_all(out, self.painter.pixels())
+        out.put(self.painter.pixels())
     }
 
     // Paints one piece, and puts it.
@@ -175,7 +174,7 @@ impl<P: ScenePainter> Hand<P> {
         shot: Shot,
         parts: usize,
         out: &mut K,
-    ) -> Result<(), WriteStop>
+    ) -> Result<(), PutFault>
         ensures bytes { PutsAll (K.held out.old) (K.held out.new) (shown shot) result }
         ensures grows { K.faults out.old ≤ K.faults out.new }
         ensures refusals { K.refusals out.old ≤ K.refusals out.new }
@@ -185,7 +184,7 @@ impl<P: ScenePainter> Hand<P> {
         self.clear();
         match self.paint(rt, shot, parts) {
             Ok(()) => self.put(out),
-            Err(_) => Err(WriteStop::Memory),
+            Err(refused) => Err(PutFault::Memory(refused)),
         }
     }
 
@@ -195,7 +194,7 @@ impl<P: ScenePainter> Hand<P> {
         rt: &R,
         parts: usize,
         out: &mut K,
-    ) -> Result<(), WriteStop>
+    ) -> Result<(), PutFault>
         ensures bytes { PutsAll (K.held out.old) (K.held out.new) (due_of self.old) result }
         ensures grows { K.faults out.old ≤ K.faults out.new }
         ensures refusals { K.refusals out.old ≤ K.refusals out.new }
@@ -205,8 +204,8 @@ impl<P: ScenePainter> Hand<P> {
         let none = Vec::new(self.alloc);
         let mut queue = mem::replace(&mut self.due, none).into_iter();
         while let Some(shot) = queue.next() {
-            if let Err(stop) = self.put_one(rt, shot, parts, out) {
-                return Err(stop);
+            if let Err(fault) = self.put_one(rt, shot, parts, out) {
+                return Err(fault);
             }
         }
         Ok(())
@@ -271,7 +270,7 @@ fn work_halves<R: Threads + Sync, P: ScenePainter>(
 }
 
 // Puts what the hands made, in order.
-fn put_each<K: Sink, P: ScenePainter>(hands: &[Hand<P>], out: &mut K) -> Result<(), WriteStop>
+fn put_each<K: Sink, P: ScenePainter>(hands: &[Hand<P>], out: &mut K) -> Result<(), PutFault>
     ensures bytes { PutsAll (K.held out.old) (K.held out.new) (all_made P.rows hands.now) result }
     ensures grows { K.faults out.old ≤ K.faults out.new }
     ensures refusals { K.refusals out.old ≤ K.refusals out.new }
@@ -279,8 +278,8 @@ fn put_each<K: Sink, P: ScenePainter>(hands: &[Hand<P>], out: &mut K) -> Result<
     ensures place { K.place out.new ≡ K.place out.old }
 {
     for hand in hands {
-        if let Err(stop) = hand.put(out) {
-            return Err(stop);
+        if let Err(fault) = hand.put(out) {
+            return Err(fault);
         }
     }
     Ok(())
@@ -292,7 +291,7 @@ fn put_worked<K: Sink, P: ScenePainter>(
     worked: Result<(), AllocError>,
     hands: &[Hand<P>],
     out: &mut K,
-) -> Result<(), WriteStop>
+) -> Result<(), PutFault>
     ensures bytes { (start : Option (List ℕ)) (before due : List ℕ) → Appends start (K.held out.old) before → OnOk worked (all_made P.rows hands.now ≡ due) → PutsAll start (K.held out.new) (before ++ due) result }
     ensures grows { K.faults out.old ≤ K.faults out.new }
     ensures refusals { K.refusals out.old ≤ K.refusals out.new }
@@ -301,18 +300,18 @@ fn put_worked<K: Sink, P: ScenePainter>(
 {
     match worked {
         Ok(()) => put_each(hands, out),
-        Err(_) => Err(WriteStop::Memory),
+        Err(refused) => Err(PutFault::Memory(refused)),
     }
 }
 
 // The same after some bytes were to be put, unless a part of them was refused.
 #[tactic(auto, using(crate::proofs::Gains::gains_longer, crate::proofs::Gains::blames_from))]
 fn put_others<K: Sink, P: ScenePainter>(
-    put: Result<(), WriteStop>,
+    put: Result<(), PutFault>,
     worked: Result<(), AllocError>,
     hands: &[Hand<P>],
     out: &mut K,
-) -> Result<(), WriteStop>
+) -> Result<(), PutFault>
     ensures bytes { (start : Option (List ℕ)) (before due : List ℕ) → PutsAll start (K.held out.old) before put → OnOk worked (all_made P.rows hands.now ≡ due) → PutsAll start (K.held out.new) (before ++ due) result }
     ensures grows { K.faults out.old ≤ K.faults out.new }
     ensures refusals { K.refusals out.old ≤ K.refusals out.new }
@@ -321,7 +320,7 @@ fn put_others<K: Sink, P: ScenePainter>(
 {
     match put {
         Ok(()) => put_worked(worked, hands, out),
-        Err(stop) => Err(stop),
+        Err(fault) => Err(fault),
     }
 }
 
@@ -332,7 +331,7 @@ fn work_beside<R: Threads + Sync, K: Sink, P: ScenePainter>(
     others: &mut [Hand<P>],
     parts: usize,
     out: &mut K,
-) -> (Result<(), AllocError>, Result<(), WriteStop>)
+) -> (Result<(), AllocError>, Result<(), PutFault>)
     requires { IsSync R.row }
     ensures worked { OnOk result.0 (all_made P.rows others.new ≡ all_due others.old) }
     ensures bytes { PutsAll (K.held out.old) (K.held out.new) (due_of first.old) result.1 }
@@ -358,7 +357,7 @@ fn put_beside<R: Threads + Sync, K: Sink, P: ScenePainter>(
     others: &mut [Hand<P>],
     parts: usize,
     out: &mut K,
-) -> Result<(), WriteStop>
+) -> Result<(), PutFault>
     requires { IsSync R.row }
     ensures bytes { PutsAll (K.held out.old) (K.held out.new) (due_of first.old ++ all_due others.old) result }
     ensures grows { K.faults out.old ≤ K.faults out.new }
@@ -370,7 +369,7 @@ fn put_beside<R: Threads + Sync, K: Sink, P: ScenePainter>(
     put_others(put, worked, others, out)
 }
 
-/// The hands paint their pieces side by side, each in a thread of its own where it can be started, and each scene
+/// The hands paint their pieces side by side, each in a thread of its own if it can be started, and each scene
 /// in at most the given number of parts. The first hand puts each of its pieces at once, and then those of the others are
 /// put in order.
 #[tactic(auto, using(crate::proofs::Gains::appends_nothing))]
@@ -379,7 +378,7 @@ pub(crate) fn put_hands<R: Threads + Sync, K: Sink, P: ScenePainter>(
     hands: &mut [Hand<P>],
     parts: usize,
     out: &mut K,
-) -> Result<(), WriteStop>
+) -> Result<(), PutFault>
     ensures bytes { PutsAll (K.held out.old) (K.held out.new) (all_due hands.old) result }
     ensures grows { K.faults out.old ≤ K.faults out.new }
     ensures refusals { K.refusals out.old ≤ K.refusals out.new }

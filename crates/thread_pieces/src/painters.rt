@@ -2,13 +2,12 @@
 
 ghost use Rattle.std.specs.Prelude.{◌≡◌, ◌≤◌, ◌++◌, [], max, IfOk, OnOk};
 ghost use Rattle.thread_pieces.specs.Shots.{all_due, all_shown, due_of, shown};
-ghost use Rattle.thread_pieces.specs.Writing.{PutsAll, WriteCause};
+ghost use Rattle.byte_io.specs.Pieces.{PutsAll, WriteCause};
 
 use crate::hands::{Hand, put_hands};
 use crate::scene_painter::ScenePainter;
 use crate::shot::Shot;
-use crate::writing::WriteStop;
-use byte_io::Sink;
+use byte_io::{PutFault, Sink};
 use std::alloc::{AllocError, Global};
 use std::marker::Sync;
 use std::thread::Threads;
@@ -16,11 +15,11 @@ use std::thread::Threads;
 /// Painters that work side by side, each on a run of consecutive pieces.
 pub struct Painters<P> {
     alloc: Global,
-    /// the hands that have nothing to do
+    /// The hands that have nothing to do.
     idle: Vec<Hand<P>>,
-    /// those that have, in the order of their pieces
+    /// Those that have, in the order of their pieces.
     pub(crate) hands: Vec<Hand<P>>,
-    /// how many work side by side at most
+    /// How many work side by side at most.
     most: usize,
     ghost some: { 1 ≤ most },
 }
@@ -38,7 +37,7 @@ impl<P: Drop> Drop for Painters<P> {
 }
 
 impl<P: ScenePainter> Painters<P> {
-    /// At most the given number of painters, at least one. Each is made where it is needed.
+    /// At most the given number of painters, at least one. Each is made when it is needed.
     pub fn new(alloc: Global, most: usize) -> Painters<P>
         ensures { result.most ≡ max most 1 }
     {
@@ -94,7 +93,7 @@ impl<P: ScenePainter> Painters<P> {
         }
     }
 
-    // Gives a piece to the last hand, or where that has its share, to another.
+    // Gives a piece to the last hand, or if that has its share, to another.
     #[tactic(auto, using(crate::proofs::Parts::one_more))]
     fn deal_one(&mut self, shot: Shot, share: usize) -> Result<(), AllocError>
         ensures due { OnOk result (all_due self.new.hands.items ≡ all_due self.old.hands.items ++ shown shot) }
@@ -134,11 +133,7 @@ impl<P: ScenePainter> Painters<P> {
     }
 
     // Paints what was dealt, and puts it.
-    fn put_dealt<R: Threads + Sync, K: Sink>(
-        &mut self,
-        rt: &R,
-        out: &mut K,
-    ) -> Result<(), WriteStop>
+    fn put_dealt<R: Threads + Sync, K: Sink>(&mut self, rt: &R, out: &mut K) -> Result<(), PutFault>
         ensures bytes { PutsAll (K.held out.old) (K.held out.new) (all_due self.old.hands.items) result }
         ensures grows { K.faults out.old ≤ K.faults out.new }
         ensures refusals { K.refusals out.old ≤ K.refusals out.new }
@@ -150,14 +145,14 @@ impl<P: ScenePainter> Painters<P> {
         put_hands(rt, self.hands.as_mut_slice(), parts, out)
     }
 
-    /// Paints pieces side by side, and puts them in order. Where there are fewer pieces than painters, each scene is
+    /// Paints pieces side by side, and puts them in order. If there are fewer pieces than painters, each scene is
     /// painted in several parts. How many work side by side at most stays the same.
     pub fn put<R: Threads + Sync, K: Sink>(
         &mut self,
         rt: &R,
         shots: Vec<Shot>,
         out: &mut K,
-    ) -> Result<(), WriteStop>
+    ) -> Result<(), PutFault>
         ensures bytes { PutsAll (K.held out.old) (K.held out.new) (all_shown shots.items) result }
         ensures grows { K.faults out.old ≤ K.faults out.new }
         ensures refusals { K.refusals out.old ≤ K.refusals out.new }
@@ -165,8 +160,8 @@ impl<P: ScenePainter> Painters<P> {
         ensures place { K.place out.new ≡ K.place out.old }
         ensures most { self.new.most ≡ self.old.most }
     {
-        if self.deal(shots).is_err() {
-            return Err(WriteStop::Memory);
+        if let Err(refused) = self.deal(shots) {
+            return Err(PutFault::Memory(refused));
         }
         let put = self.put_dealt(rt, out);
         self.rest();

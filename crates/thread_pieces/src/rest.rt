@@ -1,38 +1,38 @@
 //! What is left once both ends are in one thread.
 ghost use Rattle.std.specs.Prelude.{ℕ, List, Option, ◌≡◌, ◌≤◌, length, IfOk};
 ghost use Rattle.rtrb.specs.Ring.{known_items};
+ghost use Rattle.byte_io.specs.Pieces.{PutsAll};
 ghost use Rattle.thread_pieces.specs.Shots.{all_shown, shown};
 ghost use Rattle.thread_pieces.specs.Ring.{OneRing, bytes_taken, whole};
-ghost use Rattle.thread_pieces.specs.Answers.{AddsBytes, Blames, Gained, Stops};
+ghost use Rattle.thread_pieces.specs.Answers.{AddsBytes, Blames, Stops};
 
-use crate::ends::{Presented, Presenter, RingSink};
-use crate::serving::{present, told, without_memory};
-use crate::{Painters, ScenePainter, Shot, put_all};
-use byte_io::Sink;
+use crate::ends::{Presenter, RingSink};
+use crate::serving::{present, without_memory};
+use crate::{Painters, ScenePainter, Shot};
+use byte_io::{PutFault, Sink};
 use rtrb::Consumer;
 use std::alloc::{AllocError, Global};
 use std::collections::VecDeque;
 use std::marker::Sync;
 use std::thread::Threads;
 
-/// Puts what is left in the ring and in the sink into `out`, with the images of its scenes, where `serve` answered
-/// `Written` or was never called (`served` is then `Written`); else it puts nothing and answers
-/// `served`. Both ends are of one ring.
+/// Puts what is left in the ring and in the sink into `out`, with the images of its scenes, if `serve` answered
+/// Ok or was never called (`served` is then Ok); else it puts nothing and answers `served`. Both ends are of one ring.
 ///
-/// `Written`: `out` gained in all exactly what the sink holds. `Fault` comes only where the count of
-/// faults of `out` rose in this call, or stands at its last value, or `served` is `Fault`; `Memory`
-/// where `out` or a painter found none or `served` is `Memory`. In both `out` gained in all a prefix of what the
+/// Ok: `out` gained in all exactly what the sink holds. `Failed` comes only if the count of
+/// faults of `out` rose in this call, or stands at its last value, or `served` is `Failed`; `Memory`
+/// if `out` or a painter found none or `served` is `Memory`. In both `out` gained in all a prefix of what the
 /// sink holds.
 pub fn finish<R: Threads + Sync, K: Sink, P: ScenePainter>(
     rt: &R,
     sink: RingSink,
     presenter: Presenter,
-    served: Presented,
+    served: Result<(), PutFault>,
     painters: &mut Painters<P>,
     out: &mut K,
-) -> Presented
+) -> Result<(), PutFault>
     requires { OneRing sink presenter }
-    ensures bytes { (first : Option (List ℕ)) → Gained served first (K.held out.old) (bytes_taken presenter) → Gained result first (K.held out.new) (whole sink) }
+    ensures bytes { (first : Option (List ℕ)) → PutsAll first (K.held out.old) (bytes_taken presenter) served → PutsAll first (K.held out.new) (whole sink) result }
     ensures faults { K.faults out.old ≤ K.faults out.new }
     ensures refusals { K.refusals out.old ≤ K.refusals out.new }
     ensures stops { Stops served result out.old out.new }
@@ -67,10 +67,10 @@ fn present_one<R: Threads + Sync, K: Sink, P: ScenePainter>(
     rt: &R,
     alloc: Global,
     piece: Shot,
-    served: Presented,
+    served: Result<(), PutFault>,
     painters: &mut Painters<P>,
     out: &mut K,
-) -> Presented
+) -> Result<(), PutFault>
     ensures adds { AddsBytes served result (K.held out.old) (K.held out.new) (shown piece) }
     ensures faults { K.faults out.old ≤ K.faults out.new }
     ensures refusals { K.refusals out.old ≤ K.refusals out.new }
@@ -80,7 +80,7 @@ fn present_one<R: Threads + Sync, K: Sink, P: ScenePainter>(
 {
     match one(alloc, piece) {
         Ok(pieces) => present(rt, served, pieces, painters, out),
-        Err(_) => without_memory(served, out),
+        Err(refused) => without_memory(served, refused, out),
     }
 }
 
@@ -90,10 +90,10 @@ fn empty<R: Threads + Sync, K: Sink, P: ScenePainter>(
     alloc: Global,
     consumer: &mut Consumer<Shot>,
     count: usize,
-    served: Presented,
+    served: Result<(), PutFault>,
     painters: &mut Painters<P>,
     out: &mut K,
-) -> Presented
+) -> Result<(), PutFault>
     requires { count ≡ length (known_items consumer.old) }
     ensures adds { AddsBytes served result (K.held out.old) (K.held out.new) (all_shown (known_items consumer.old)) }
     ensures faults { K.faults out.old ≤ K.faults out.new }
@@ -115,10 +115,10 @@ fn put_kept<R: Threads + Sync, K: Sink, P: ScenePainter>(
     rt: &R,
     alloc: Global,
     kept: VecDeque<Shot>,
-    served: Presented,
+    served: Result<(), PutFault>,
     painters: &mut Painters<P>,
     out: &mut K,
-) -> Presented
+) -> Result<(), PutFault>
     ensures adds { AddsBytes served result (K.held out.old) (K.held out.new) (all_shown kept.items) }
     ensures faults { K.faults out.old ≤ K.faults out.new }
     ensures refusals { K.refusals out.old ≤ K.refusals out.new }
@@ -134,8 +134,12 @@ fn put_kept<R: Threads + Sync, K: Sink, P: ScenePainter>(
 }
 
 /// Puts the bytes after the last piece.
-#[tactic(auto, using(crate::proofs::RingGains::puts_add, crate::proofs::RingGains::put_blames, crate::proofs::RingGains::wants))]
-fn put_lines<K: Sink>(lines: &[u8], served: Presented, out: &mut K) -> Presented
+#[tactic(auto, using(byte_io::proofs::Puts::puts_piece, byte_io::proofs::Puts::piece_cause, crate::proofs::RingGains::puts_add, crate::proofs::RingGains::put_blames, crate::proofs::RingGains::wants))]
+fn put_lines<K: Sink>(
+    lines: &[u8],
+    served: Result<(), PutFault>,
+    out: &mut K,
+) -> Result<(), PutFault>
     ensures adds { AddsBytes served result (K.held out.old) (K.held out.new) lines.now }
     ensures faults { K.faults out.old ≤ K.faults out.new }
     ensures refusals { K.refusals out.old ≤ K.refusals out.new }
@@ -144,8 +148,7 @@ fn put_lines<K: Sink>(lines: &[u8], served: Presented, out: &mut K) -> Presented
     ensures place { K.place out.new ≡ K.place out.old }
 {
     match served {
-        Presented::Written => told(put_all(out, lines)),
-        Presented::Fault => Presented::Fault,
-        Presented::Memory => Presented::Memory,
+        Ok(()) => out.put(lines),
+        Err(fault) => Err(fault),
     }
 }

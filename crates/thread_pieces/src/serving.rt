@@ -1,44 +1,29 @@
 //! Handing the pieces of a ring on.
 ghost use Rattle.std.specs.Prelude.{◌≡◌, ◌≤◌, ℕ, ◌++◌, List, [], IfNone, IsFalse, MatchOption};
+ghost use Rattle.byte_io.specs.Pieces.{WriteCause};
 ghost use Rattle.thread_pieces.specs.Shots.{all_shown, shown};
 ghost use Rattle.thread_pieces.specs.Ring.{EmptyBatch, SamePresenter, TakesBatch, bytes_taken, seen};
-ghost use Rattle.thread_pieces.specs.Answers.{AddsBytes, Blames, FaultRose, Served, Stops, Takes, told_of};
+ghost use Rattle.thread_pieces.specs.Answers.{AddsBytes, Blames, Served, Stops, Takes};
 
-use crate::ends::{Presented, Presenter};
+use crate::ends::Presenter;
+use crate::limits::{DEALT_PIECES, HELD_BYTES};
 use crate::shared::byte_count;
-use crate::{Painters, ScenePainter, Shot, WriteStop};
-use byte_io::Sink;
+use crate::{Painters, ScenePainter, Shot};
+use byte_io::{PutFault, Sink};
 use std::alloc::AllocError;
 use std::marker::Sync;
 use std::sync::Wait;
 use std::thread::Threads;
 
-// How many pieces are taken at a time for each painter, at most.
-const RUN: usize = 4;
-
-// How many bytes of pieces are taken at a time, at most, and one piece.
-const MOST_TAKEN: u64 = 48 * 1024 * 1024;
-
-// What became of pieces that were put.
-pub(crate) fn told(put: Result<(), WriteStop>) -> Presented
-    ensures { result ≡ told_of put }
-{
-    match put {
-        Ok(()) => Presented::Written,
-        Err(WriteStop::Fault) => Presented::Fault,
-        Err(WriteStop::Memory) => Presented::Memory,
-    }
-}
-
 /// Paints and puts pieces, unless an earlier one was refused, and answers for both.
 #[tactic(auto, using(crate::proofs::RingGains::puts_add, crate::proofs::RingGains::put_blames, crate::proofs::RingGains::wants))]
 pub(crate) fn present<R: Threads + Sync, K: Sink, P: ScenePainter>(
     rt: &R,
-    state: Presented,
+    state: Result<(), PutFault>,
     pieces: Vec<Shot>,
     painters: &mut Painters<P>,
     out: &mut K,
-) -> Presented
+) -> Result<(), PutFault>
     ensures adds { AddsBytes state result (K.held out.old) (K.held out.new) (all_shown pieces.items) }
     ensures faults { K.faults out.old ≤ K.faults out.new }
     ensures refusals { K.refusals out.old ≤ K.refusals out.new }
@@ -47,24 +32,26 @@ pub(crate) fn present<R: Threads + Sync, K: Sink, P: ScenePainter>(
     ensures place { K.place out.new ≡ K.place out.old }
 {
     match state {
-        Presented::Written => told(painters.put(rt, pieces, out)),
-        Presented::Fault => Presented::Fault,
-        Presented::Memory => Presented::Memory,
+        Ok(()) => painters.put(rt, pieces, out),
+        Err(fault) => Err(fault),
     }
 }
 
 /// Memory ran out, unless an earlier piece was refused.
 #[tactic(auto, using(crate::proofs::RingGains::wants))]
-pub(crate) fn without_memory<K: Sink>(state: Presented, out: &mut K) -> Presented
+pub(crate) fn without_memory<K: Sink>(
+    state: Result<(), PutFault>,
+    refused: AllocError,
+    out: &mut K,
+) -> Result<(), PutFault>
     ensures adds { (bytes : List ℕ) → AddsBytes state result (K.held out.old) (K.held out.new) bytes }
     ensures same { out.new ≡ out.old }
     ensures stops { Stops state result out.old out.new }
     ensures cause { Blames state result (K.faults out.old) (K.faults out.new) }
 {
     match state {
-        Presented::Written => Presented::Memory,
-        Presented::Fault => Presented::Fault,
-        Presented::Memory => Presented::Memory,
+        Ok(()) => Err(PutFault::Memory(refused)),
+        Err(fault) => Err(fault),
     }
 }
 
@@ -85,7 +72,7 @@ impl Presenter {
         }
     }
 
-    // Takes pieces out of the ring, at least one where there is any, and at most the given number, until there is none
+    // Takes pieces out of the ring, at least one if there is any, and at most the given number, until there is none
     // or they are large. An error means out of memory, and the piece that was taken last is lost.
     #[tactic(auto, using(crate::proofs::RingGains::taken_and_lost, crate::proofs::Parts::one_more))]
     fn take_batch(&mut self, most: usize) -> Result<Vec<Shot>, AllocError>
@@ -96,7 +83,7 @@ impl Presenter {
     {
         let mut batch = Vec::new(self.alloc);
         while batch.len() < most {
-            if self.taken >= MOST_TAKEN && !batch.is_empty() {
+            if self.taken >= HELD_BYTES && !batch.is_empty() {
                 return Ok(batch);
             }
             let Some(piece) = self.take_one() else {
@@ -124,11 +111,11 @@ impl Presenter {
     fn step<R: Threads + Sync, K: Sink, P: ScenePainter>(
         &mut self,
         rt: &R,
-        state: Presented,
+        state: Result<(), PutFault>,
         most: usize,
         painters: &mut Painters<P>,
         out: &mut K,
-    ) -> (bool, Presented)
+    ) -> (bool, Result<(), PutFault>)
         requires { 1 ≤ most }
         ensures ring { SamePresenter self.old self.new }
         ensures none { IsFalse result.0 → seen self.new ≡ [] }
@@ -143,16 +130,16 @@ impl Presenter {
                 let any = !batch.is_empty();
                 (any, present(rt, state, batch, painters, out))
             }
-            Err(_) => (true, without_memory(state, out)),
+            Err(refused) => (true, without_memory(state, refused, out)),
         }
     }
 
-    /// Takes pieces out of the ring, paints their scenes, several at once where several wait, and puts all into
+    /// Takes pieces out of the ring, paints their scenes, several at once if several wait, and puts all into
     /// `out` in order, until it has seen the end mark raised and after that found the ring empty. While there is no
     /// piece it sleeps. After a refused put it takes the later pieces and drops them, so that nobody waits for it.
     ///
-    /// `Written`: `out` gained exactly the pieces that were taken, in order. `Fault` comes only where
-    /// the count of faults of `out` rose in this call, or stands at its last value; `Memory` where
+    /// Ok: `out` gained exactly the pieces that were taken, in order. `Failed` comes only if
+    /// the count of faults of `out` rose in this call, or stands at its last value; `Memory` if
     /// `out` or a painter found none. In both `out` gained a prefix of the pieces that were taken. With each answer no
     /// piece is left that was seen in the ring.
     #[tactic(auto, using(crate::proofs::RingGains::served_on))]
@@ -161,17 +148,17 @@ impl Presenter {
         rt: &R,
         painters: &mut Painters<P>,
         out: &mut K,
-    ) -> Presented
+    ) -> Result<(), PutFault>
         ensures ring { SamePresenter self.old self.new }
         ensures bytes { Served result (K.held out.old) (K.held out.new) (bytes_taken self.old) (bytes_taken self.new) }
         ensures none { seen self.new ≡ [] }
         ensures faults { K.faults out.old ≤ K.faults out.new }
         ensures refusals { K.refusals out.old ≤ K.refusals out.new }
-        ensures cause { FaultRose result (K.faults out.old) (K.faults out.new) }
+        ensures cause { WriteCause (K.faults out.old) (K.faults out.new) result }
         ensures place { K.place out.new ≡ K.place out.old }
     {
-        let most = painters.most().saturating_mul(RUN).max(1);
-        let mut state = Presented::Written;
+        let most = painters.most().saturating_mul(DEALT_PIECES).max(1);
+        let mut state = Ok(());
         self.shared.serve(true);
         for _ in rt.forever() {
             // Both are read before the ring is looked at: a piece that comes later rings again, and what was

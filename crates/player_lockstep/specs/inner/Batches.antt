@@ -9,8 +9,9 @@ use Rattle.model_lockstep.specs.Walks.{Way, Follows}
 use Rattle.impl_log.specs.Runs.{Run, past}
 use Rattle.script_json.specs.Recordings.{recording}
 use Rattle.proxy_single_thread.specs.Singles.{SingleModel}
-use Rattle.thread_pieces.specs.declared.writing.WriteStop.{WriteStop}
-use Rattle.thread_pieces.specs.declared.writing.WriteStop.TheVariants.{Memory}
+use Rattle.std.specs.declared.alloc.AllocError.{AllocError}
+use Rattle.byte_io.specs.declared.writing.PutFault.{PutFault}
+use Rattle.byte_io.specs.declared.writing.PutFault.TheVariants.{Memory}
 use Rattle.player_lockstep.specs.Recordings.{IsLockstepRecording}
 use Rattle.player_lockstep.specs.inner.Filming.{standing_at}
 use Rattle.player_lockstep.specs.inner.Ways.{whole_played}
@@ -46,8 +47,8 @@ abbrev pub StopsEarly : ScriptModel → Option (List ℕ) → Option (List ℕ) 
 StopsEarly s start after = (whole : List ℕ) × IsLockstepRecording s whole × GainsPrefix start after whole
 
 -- what playing and putting answered together: putting goes first
-abbrev pub joint_answer : {X Y A : Type 0} → Result X A → Result Y WriteStop → Result X WriteStop
+abbrev pub joint_answer : {X Y : Type 0} → Result X AllocError → Result Y PutFault → Result X PutFault
 joint_answer (Ok left) (Ok _) = Ok left
 joint_answer (Ok left) (Err stop) = Err stop
-joint_answer (Err e) (Ok _) = Err Memory
+joint_answer (Err e) (Ok _) = Err (Memory e)
 joint_answer (Err e) (Err stop) = Err stop

@@ -8,8 +8,8 @@ use Rattle.impl_log.specs.Runs.{Run, past, now, Entered}
 use Rattle.impl_core.specs.Origins.{Origin}
 use Rattle.impl_core.specs.Replies.{is_own, is_draw_kind, is_played, DrawsScene}
 use Rattle.thread_pieces.specs.Scenes.{scene_image}
-use Rattle.thread_pieces.specs.declared.writing.WriteStop.{WriteStop}
-use Rattle.thread_pieces.specs.declared.writing.WriteStop.TheVariants as stop
+use Rattle.byte_io.specs.declared.writing.PutFault.{PutFault}
+use Rattle.byte_io.specs.declared.writing.PutFault.TheVariants as put_fault
 use Rattle.proxy_threads.specs.declared.turned.Turned.{Turned}
 use Rattle.proxy_threads.specs.declared.turned.Turned.TheVariants as turned
 use Rattle.proxy_threads.specs.declared.playing.Played.{Played}
@@ -108,9 +108,9 @@ GoesOrGivesUp turned.WriteFault = ⊤
 GoesOrGivesUp _ = ⊥
 
 -- the answer if writing has stopped
-abbrev pub answer_at : WriteStop → Turned
-answer_at stop.Fault = turned.WriteFault
-answer_at stop.Memory = turned.Memory
+abbrev pub answer_at : PutFault → Turned
+answer_at put_fault.Failed = turned.WriteFault
+answer_at (put_fault.Memory _) = turned.Memory
 
 -- what is written of what was played: its lines, and its image; or nothing, if memory was refused
 abbrev pub text_for : Played → List ℕ → List ℕ

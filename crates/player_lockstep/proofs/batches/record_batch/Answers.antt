@@ -1,8 +1,7 @@
 -- What was played waits, and what waited was put; or a prefix of it was.
 use Rattle.std.proofs.Common.{◌<◌, length, subst, sym}
 use Rattle.std.specs.Prelude.{IfOk, OnErr, OnOk}
-use Rattle.byte_io.specs.Pieces.{GainsPrefix}
-use Rattle.thread_pieces.specs.Writing.{WriteCause}
+use Rattle.byte_io.specs.Pieces.{GainsPrefix, WriteCause}
 use Rattle.recording_writer.specs.Batches.{held_of}
 use Rattle.player_lockstep.specs.inner.Batches.{StaysOn, run_text}
 use Rattle.recording_writer.specs.Parts.{Half}

@@ -2,7 +2,7 @@
 use Rattle.std.proofs.Common.{ℕ, List, subst}
 use Rattle.model_history.specs.Legal.{Legal}
 use Rattle.impl_log.specs.Runs.{Run, past}
-use Rattle.thread_pieces.specs.Writing.{PutsAll}
+use Rattle.byte_io.specs.Pieces.{PutsAll}
 use Rattle.player_lockstep.proofs.FilmedRuns.{news_shown}
 use Rattle.player_lockstep.proofs.film.put_news.Goals as goal
 

@@ -1,6 +1,6 @@
 -- The whole run was played and written, or a prefix of it.
 use Rattle.std.specs.Prelude.{⊤}
-use Rattle.thread_pieces.specs.declared.writing.WriteStop.{WriteStop}
+use Rattle.byte_io.specs.declared.writing.PutFault.{PutFault}
 use Rattle.player_lockstep.proofs.RecordedRuns.{fresh_can, fresh_written, run_stopped, run_put, run_lockstep, where_ok}
 use Rattle.player_lockstep.proofs.lockstep.record_events.Goals as goal
 
@@ -12,15 +12,15 @@ record_run-requires-clause-written g c κs within = fresh_written c.args.script.
 
 pub returns-in-Err-clause-bytes : goal.returns-in-Err-clause-bytes
 returns-in-Err-clause-bytes g c = λ start front.
-    run_stopped {X = ⊤} {E = WriteStop} c.args.script.now c.inputs.result.now c.args.single.now _ _ _ c.args.recorder.now.lines.items _ c.requires.fresh c.inputs.ensures start front
+    run_stopped {X = ⊤} {E = PutFault} c.args.script.now c.inputs.result.now c.args.single.now _ _ _ c.args.recorder.now.lines.items _ c.requires.fresh c.inputs.ensures start front
     c.in-Err.stop c.in-Err.ensures.bytes
 
 pub returns-clause-bytes : goal.returns-clause-bytes
 returns-clause-bytes g c = λ start front.
-    run_put {X = ⊤} {E = WriteStop} c.args.script.now c.inputs.result.now c.args.single.now _ _ _ c.args.recorder.now.lines.items _ c.requires.fresh c.inputs.ensures start front
+    run_put {X = ⊤} {E = PutFault} c.args.script.now c.inputs.result.now c.args.single.now _ _ _ c.args.recorder.now.lines.items _ c.requires.fresh c.inputs.ensures start front
     tt _ c.finish.result c.in_default.ensures.bytes c.finish.ensures.bytes
 
 pub returns-clause-history : goal.returns-clause-history
 returns-clause-history g c =
-    where_ok _ c.finish.result (run_lockstep {X = ⊤} {E = WriteStop} c.args.script.now c.inputs.result.now c.args.single.now _ _ _ c.args.recorder.now.lines.items _ c.requires.fresh c.inputs.ensures
+    where_ok _ c.finish.result (run_lockstep {X = ⊤} {E = PutFault} c.args.script.now c.inputs.result.now c.args.single.now _ _ _ c.args.recorder.now.lines.items _ c.requires.fresh c.inputs.ensures
     tt c.in_default.ensures.bytes)

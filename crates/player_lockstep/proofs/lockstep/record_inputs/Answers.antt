@@ -8,7 +8,7 @@ use Rattle.model_lockstep.specs.Walks.{CanFollow, input_played, inputs_from}
 use Rattle.model_lockstep.proofs.Parts.{input_good, inputs_grow}
 use Rattle.model_lockstep.proofs.Following.{first_part}
 use Rattle.proxy_single_thread.specs.Singles.{walk_of}
-use Rattle.thread_pieces.specs.declared.writing.WriteStop.{WriteStop}
+use Rattle.byte_io.specs.declared.writing.PutFault.{PutFault}
 use Rattle.player_lockstep.specs.inner.Ways.{WritesWay}
 use Rattle.player_lockstep.proofs.PlayedWays.{can_after, ways_join, ways_stop, way_over}
 use Rattle.player_lockstep.proofs.lockstep.record_inputs.Goals as goal
@@ -30,7 +30,7 @@ returns-in-Err-clause-bytes g c =
     c.loop-input.invariant.extends _ _ _ _
     (subst
     (λ (is : List Input).
-    WritesWay {X = ⊤} {E = WriteStop} (inputs_from is) c.loop-input.single c.record_input.new.single (g.K.Sink.held c.loop-input.out) (g.K.Sink.held c.record_input.new.out) c.loop-input.recorder.lines.items c.record_input.new.recorder (Err c.in-Err.stop))
+    WritesWay {X = ⊤} {E = PutFault} (inputs_from is) c.loop-input.single c.record_input.new.single (g.K.Sink.held c.loop-input.out) (g.K.Sink.held c.record_input.new.out) c.loop-input.recorder.lines.items c.record_input.new.recorder (Err c.in-Err.stop))
     (sym c.in-Some.ensures.cases.0)
     (ways_stop (input_played i) (inputs_from after) _ _ _ _ _ _ _ _ _ (input_good i) (inputs_grow after) can c.in-Err.ensures.bytes))
 

@@ -1,6 +1,6 @@
 -- What is put is the line of the outcome.
 use Rattle.std.proofs.Common.{ℕ, List, subst}
-use Rattle.thread_pieces.specs.Writing.{PutsAll}
+use Rattle.byte_io.specs.Pieces.{PutsAll}
 use Rattle.player_uses.proofs.notes.put_line.Goals as goal
 
 pub returns-clause-bytes : goal.returns-clause-bytes

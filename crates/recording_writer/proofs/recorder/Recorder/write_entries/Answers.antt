@@ -8,7 +8,7 @@ use Rattle.viz_scene.specs.Views.{SceneView}
 use Rattle.model_history.specs.declared.history.Entry.{Entry}
 use Rattle.model_history.specs.Recordings.{piece, pieces}
 use Rattle.model_history.specs.Scripts.{ScriptModel}
-use Rattle.thread_pieces.specs.declared.writing.WriteStop.{WriteStop}
+use Rattle.byte_io.specs.declared.writing.PutFault.{PutFault}
 use Rattle.recording_writer.specs.Repeats.{Keeps}
 use Rattle.recording_writer.specs.Scenes.{AllCome}
 use Rattle.recording_writer.specs.Steps.{WritesOn}
@@ -97,7 +97,7 @@ returns-clause-written g c =
     let none : pieces s (reverse (take at es)) (drop at es) ≡ [] = ap (λ (xs : List Entry). pieces s (reverse (take at es)) xs) (drop_all at es over) in
     subst
     (λ (xs : List Entry).
-    WritesOn {X = ⊤} {E = WriteStop} s (reverse xs) xs (g.K.Sink.held c.args.out.now) (g.K.Sink.held c.loop-at.out) (c.args.self.now.lines.items ++ pieces s (reverse (take from xs)) (drop from xs)) c.loop-at.self (Ok tt))
+    WritesOn {X = ⊤} {E = PutFault} s (reverse xs) xs (g.K.Sink.held c.args.out.now) (g.K.Sink.held c.loop-at.out) (c.args.self.now.lines.items ++ pieces s (reverse (take from xs)) (drop from xs)) c.loop-at.self (Ok tt))
     c.history-history.ensures.entries
     (record {
       bytes = (i.part.0, ap (λ (w : List ℕ). i.part.0 ++ w) (sym (append-nil lines) ∙ ap (λ (w : List ℕ). lines ++ w) (sym none)) ∙ i.part.1, i.part.2);
