@@ -4,7 +4,7 @@
 
 use byte_io::{OpenGate, Sink, StdSink, StdSource};
 use player_lines::{Ends, Session};
-use player_run::run;
+use player_run::{Streams, run};
 use std::alloc::{AllocError, Global};
 use std::env::{Env, FillError};
 use std::process::ExitCode;
@@ -73,7 +73,7 @@ const VERSION: &str = "cc_player 0.1.0 (rattle-kit-13f)\n";
 // How long a word may be in bytes. All words that the program knows are shorter.
 const LONGEST: usize = 256;
 
-// A word as text; the empty text where it is none.
+// A word as text; the empty text if it is none.
 fn word_of(alloc: Global, bytes: &[u8]) -> Result<String, AllocError> {
     match str::from_utf8(bytes) {
         Ok(text) => text.to_string(alloc),
@@ -119,18 +119,13 @@ fn main(rt: HostRuntime) -> ExitCode {
             Err(_) => ExitCode::from(7),
         };
     }
-    let mut source = StdSource::new(rt.stdin());
     let ends = Ends::new(StdSource::new(rt.stdin()), StdSink::new(rt.stdout()));
-    let mut session = Session::new(ends);
-    let outcome = run(
-        &rt,
-        rt.alloc(),
-        words.as_slice(),
-        &mut source,
-        &mut out,
-        &mut notes,
-        &OpenGate,
-        &mut session,
-    );
+    let mut streams = Streams {
+        source: StdSource::new(rt.stdin()),
+        out,
+        notes,
+        session: Session::new(ends),
+    };
+    let outcome = run(&rt, rt.alloc(), words.as_slice(), &mut streams, &OpenGate);
     ExitCode::from(outcome.status())
 }

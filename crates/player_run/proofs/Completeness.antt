@@ -14,7 +14,7 @@ use Rattle.player_uses.specs.Answers.{TellsMisfit, IsUnread}
 use Rattle.player_uses.specs.Faults.{Causes}
 use Rattle.player_run.specs.Runs.{Takes, RefusedShot, Refused, CauseOf, CauseFrom, IsComplete}
 use Rattle.player_uses.proofs.NotRefused.{script_taken, recording_taken, history_taken}
-use Rattle.player_run.proofs.ShotsTaken.{one_last_image}
+use Rattle.player_run.proofs.Pictures.{one_last_image}
 
 -- a script whose shot has a picture is not refused for having none
 shot_taken : (workers : ℕ) (bytes : List ℕ) (result : Outcome) → Takes (Shot workers) bytes → RefusedShot bytes result → ⊥

@@ -1,12 +1,12 @@
 -- How a run of actors ended, and what its sink gained.
 use Rattle.std.proofs.Common.{◌≡◌, inl, inr, ℕ, Bool, true, false, List, [], ◌++◌, Option, Some, sym, ◌∙◌, ap, subst, arith, append_assoc, append-nil}
+use Rattle.std.specs.Prelude.{Result, Ok, Err}
 use Rattle.std.specs.Io.KnownBytes.{Appends}
 use Rattle.byte_io.specs.Counts.{Rose}
-use Rattle.byte_io.specs.Pieces.{GainsPrefix}
+use Rattle.byte_io.specs.Pieces.{GainsPrefix, PutsAll, WriteCause}
 use Rattle.thread_pieces.specs.Ring.{whole}
-use Rattle.thread_pieces.specs.Answers.{Gained, FaultRose}
-use Rattle.thread_pieces.specs.declared.ends.Presented.{Presented}
-use Rattle.thread_pieces.specs.declared.ends.Presented.TheVariants as presented
+use Rattle.byte_io.specs.declared.writing.PutFault.{PutFault}
+use Rattle.byte_io.specs.declared.writing.PutFault.TheVariants as put_fault
 use Rattle.model_history.specs.declared.event.Event.{Event}
 use Rattle.model_history.specs.declared.history.Entry.{Entry}
 use Rattle.impl_log.specs.Runs.{Run}
@@ -18,7 +18,7 @@ use Rattle.proxy_threads.specs.Seats.{Seat, entries_of, pairs}
 use Rattle.proxy_threads.specs.Writing.{part, FaultCause, IsLast, KnowsEnd, Wrote}
 use Rattle.proxy_threads.proofs.Holds.{entries_pairs}
 use Rattle.player_run.specs.declared.beside.Ending.{Ending}
-use Rattle.player_run.specs.declared.beside.Ran.{Ran}
+use Rattle.player_run.specs.declared.beside.Remains.{Remains}
 use Rattle.player_uses.specs.Faults.{Causes}
 use Rattle.player_run.specs.inner.Actors.{HasRun, IsRunAt, PlayEnds, joint_outcome}
 
@@ -30,19 +30,19 @@ no_rise (inr is) = absurd (omega (arith, is))
 some_is : (a b : Origin) → Some a ≡ Some b → a ≡ b
 some_is a b is = cc
 
-written_cause : (last : Turned) (over : Bool) (f g : ℕ) → Causes 0 0 f g (joint_outcome presented.Written (record { last = last; over = over }))
-written_cause turned.Ended true f g = tt
-written_cause turned.Ended false f g = tt
-written_cause turned.Went over f g = tt
-written_cause turned.Blocked over f g = tt
-written_cause turned.Memory over f g = tt
-written_cause turned.WriteFault over f g = tt
+written_cause : {X : Type 0} (x : X) (last : Turned) (over : Bool) (f g : ℕ) → Causes 0 0 f g (joint_outcome (Ok x) (record { last = last; over = over }))
+written_cause x turned.Ended true f g = tt
+written_cause x turned.Ended false f g = tt
+written_cause x turned.Went over f g = tt
+written_cause x turned.Blocked over f g = tt
+written_cause x turned.Memory over f g = tt
+written_cause x turned.WriteFault over f g = tt
 
 -- a fault has its cause
-pub told_cause : (r : Presented) (ending : Ending) (f g : ℕ) → FaultRose r f g → Causes 0 0 f g (joint_outcome r ending)
-told_cause presented.Fault ending f g rose = rose
-told_cause presented.Memory ending f g rose = tt
-told_cause presented.Written ending f g rose = written_cause ending.last ending.over f g
+pub told_cause : {X : Type 0} (r : Result X PutFault) (ending : Ending) (f g : ℕ) → WriteCause f g r → Causes 0 0 f g (joint_outcome r ending)
+told_cause (Err put_fault.Failed) ending f g rose = rose
+told_cause (Err (put_fault.Memory _)) ending f g rose = tt
+told_cause (Ok x) ending f g rose = written_cause x ending.last ending.over f g
 
 module _ (o : Origin) (run : Run) (at : IsRunAt o run) (q : Seat) (seen : q.seen ≡ pairs run.entries) (before put : List ℕ) (first new : Option (List ℕ)) where
   abbrev text : List ℕ
@@ -58,23 +58,23 @@ module _ (o : Origin) (run : Run) (at : IsRunAt o run) (q : Seat) (seen : q.seen
   over_is : (over : Bool) → KnowsEnd (Some q) over turned.Ended → over ≡ is_played run.entries
   over_is over knows = knows ∙ ap (λ (es : List Entry). is_played es) (ap (λ (xs : List (ℕ × Event)). entries_of xs) seen ∙ entries_pairs run.entries)
 
-  whole_ends : (over : Bool) (r : Presented) → put ≡ text → over ≡ is_played run.entries → Gained r first new put → PlayEnds o before first new (joint_outcome r (record { last = turned.Ended; over = over }))
-  whole_ends true presented.Written is knows g = (run, at, sym knows, subst (λ (w : List ℕ). Appends first new w) is g)
-  whole_ends false presented.Written is knows g = (run, at, some [] (append-nil put ∙ is) g)
-  whole_ends true presented.Fault is knows g = (run, at, less [] (append-nil put ∙ is) g)
-  whole_ends false presented.Fault is knows g = (run, at, less [] (append-nil put ∙ is) g)
-  whole_ends true presented.Memory is knows g = (run, at, less [] (append-nil put ∙ is) g)
-  whole_ends false presented.Memory is knows g = (run, at, less [] (append-nil put ∙ is) g)
+  whole_ends : {X : Type 0} (over : Bool) (r : Result X PutFault) → put ≡ text → over ≡ is_played run.entries → PutsAll first new put r → PlayEnds o before first new (joint_outcome r (record { last = turned.Ended; over = over }))
+  whole_ends true (Ok x) is knows g = (run, at, sym knows, subst (λ (w : List ℕ). Appends first new w) is g)
+  whole_ends false (Ok x) is knows g = (run, at, some [] (append-nil put ∙ is) g)
+  whole_ends true (Err put_fault.Failed) is knows g = (run, at, less [] (append-nil put ∙ is) g)
+  whole_ends false (Err put_fault.Failed) is knows g = (run, at, less [] (append-nil put ∙ is) g)
+  whole_ends true (Err (put_fault.Memory _)) is knows g = (run, at, less [] (append-nil put ∙ is) g)
+  whole_ends false (Err (put_fault.Memory _)) is knows g = (run, at, less [] (append-nil put ∙ is) g)
 
-  front_ends : (over : Bool) (r : Presented) (rest : List ℕ) → put ++ rest ≡ text → Gained r first new put → PlayEnds o before first new (joint_outcome r (record { last = turned.Memory; over = over }))
-  front_ends over presented.Written rest is g = (run, at, some rest is g)
-  front_ends over presented.Fault rest is g = (run, at, less rest is g)
-  front_ends over presented.Memory rest is g = (run, at, less rest is g)
+  front_ends : {X : Type 0} (over : Bool) (r : Result X PutFault) (rest : List ℕ) → put ++ rest ≡ text → PutsAll first new put r → PlayEnds o before first new (joint_outcome r (record { last = turned.Memory; over = over }))
+  front_ends over (Ok x) rest is g = (run, at, some rest is g)
+  front_ends over (Err put_fault.Failed) rest is g = (run, at, less rest is g)
+  front_ends over (Err (put_fault.Memory _)) rest is g = (run, at, less rest is g)
 
   front_put : GainsPrefix (Some before) (Some put) (part run.script [] (pairs run.entries)) → (rest : List ℕ) × (put ++ rest ≡ text)
   front_put g = (g.1, ap (λ (w : List ℕ). w ++ g.1) g.3 ∙ (append_assoc before g.0 g.1 ∙ ap (λ (w : List ℕ). before ++ w) g.2))
 
-  pub run_ends : (last : Turned) (over : Bool) (r : Presented) → IsLast last → FaultCause 0 0 last → Wrote (Some before) (Some put) (part run.script [] (pairs run.entries)) last → KnowsEnd (Some q) over last → Gained r first new put
+  pub run_ends : {X : Type 0} (last : Turned) (over : Bool) (r : Result X PutFault) → IsLast last → FaultCause 0 0 last → Wrote (Some before) (Some put) (part run.script [] (pairs run.entries)) last → KnowsEnd (Some q) over last → PutsAll first new put r
       → PlayEnds o before first new (joint_outcome r (record { last = last; over = over }))
   run_ends turned.Ended over r is_last calm wrote knows g = whole_ends over r wrote (over_is over knows) g
   run_ends turned.Memory over r is_last calm wrote knows g = let f = front_put wrote in front_ends over r f.0 f.1 g
@@ -82,7 +82,7 @@ module _ (o : Origin) (run : Run) (at : IsRunAt o run) (q : Seat) (seen : q.seen
   run_ends turned.Went over r is_last calm wrote knows g = absurd is_last
   run_ends turned.Blocked over r is_last calm wrote knows g = absurd is_last
 
-pub settles : (p : Seat) (o : Origin) (before : List ℕ) (ran : Ran) (first old new : Option (List ℕ)) (r : Presented) → p.stem ≡ Some o → HasRun p before ran first old → Gained r first new (whole ran.sink) → PlayEnds o before first new (joint_outcome r ran.ending)
+pub settles : {X : Type 0} (p : Seat) (o : Origin) (before : List ℕ) (ran : Remains) (first old new : Option (List ℕ)) (r : Result X PutFault) → p.stem ≡ Some o → HasRun p before ran first old → PutsAll first new (whole ran.sink) r → PlayEnds o before first new (joint_outcome r ran.ending)
 settles p o before ran first old new r stem has gained =
     let turns = has.drove.turns in
     let run = turns.run in

@@ -2,13 +2,12 @@ pub mod Promised
 pub mod Summed
 pub mod Outputs
 pub mod ReadUses
-pub mod ScriptsPlayed
-pub mod ShotsTaken
+pub mod Pictures
 pub mod Completeness
+pub mod DoneUses
+pub mod ScriptsPlayed
 pub mod BeginsOfRuns
 pub mod EndsOfRuns
 pub mod PlayedRuns
-pub mod ScriptsActed
 pub mod WrittenWholes
 pub mod ServedLines
-pub mod ServedWords

@@ -2,4 +2,5 @@ pub mod Promises
 pub mod Shots
 pub mod Runs
 pub mod Served
+pub mod Ran
 pub mod inner

@@ -136,8 +136,3 @@ IsComplete wanted source source_old source_new out_old out_new result =
 abbrev pub UnlessServe : Result Use ℕ → Type 0 → Type 0
 UnlessServe (Ok (Serve workers)) Said = ⊤
 UnlessServe _ Said = Said
-
--- what is said of a session, if the words are `serve N`
-abbrev pub OnServe : Result Use ℕ → (ℕ → Type 0) → Type 0
-OnServe (Ok (Serve workers)) Said = Said workers
-OnServe _ Said = ⊤

@@ -3,14 +3,14 @@
 ghost use Rattle.std.specs.Prelude.{◌≡◌, ◌≤◌, ℕ, List, [], Option, Some};
 ghost use Rattle.std.specs.Thread.{IsSync};
 ghost use Rattle.thread_pieces.specs.Ring.{OneRing, SameSink, bytes_taken, whole};
-ghost use Rattle.thread_pieces.specs.Answers.{FaultRose};
+ghost use Rattle.byte_io.specs.Pieces.{WriteCause};
 ghost use Rattle.impl_core.specs.Origins.{Origin};
 ghost use Rattle.proxy_threads.specs.Seats.{Of, OfBoth, Seat};
 ghost use Rattle.proxy_threads.specs.Writing.{FaultCause};
 ghost use Rattle.player_uses.specs.Faults.{Causes};
 ghost use Rattle.player_run.specs.inner.Actors.{Drove, HasRun, IsFirst, PlayEnds, ended_as, joint_outcome};
 
-use byte_io::Sink;
+use byte_io::{PutFault, Sink};
 use impl_core::Core;
 use player_uses::Outcome;
 use proxy_threads::{CompActor, Turned, drive_compositor};
@@ -21,15 +21,15 @@ use std::sync::Wait;
 use std::thread::{Threads, join_mut};
 use thread_bell::Bell;
 use thread_lock::{Pass, TurnLock};
-use thread_pieces::{Painters, Presented, Presenter, RingSink, SceneSink, finish};
+use thread_pieces::{Painters, Presenter, RingSink, SceneSink, finish};
 
 /// What the compositor and the presenter left.
 #[derive(Drop)]
-pub(crate) struct Ran {
+pub(crate) struct Remains {
     pub(crate) sink: RingSink,
     pub(crate) presenter: Presenter,
     pub(crate) pass: Pass<Core>,
-    pub(crate) served: Presented,
+    pub(crate) served: Result<(), PutFault>,
     pub(crate) ending: Ending,
 }
 
@@ -37,7 +37,7 @@ pub(crate) struct Ran {
 #[derive(Clone, Copy, Drop)]
 pub(crate) struct Ending {
     pub(crate) last: Turned,
-    /// whether the run was played to its end
+    /// Whether the run was played to its end.
     pub(crate) over: bool,
 }
 
@@ -103,13 +103,13 @@ pub(crate) fn run_beside<R: Threads + Wait + Sync, K: Sink + Send>(
     ends: (RingSink, Presenter),
     most: usize,
     out: &mut K,
-) -> Ran
+) -> Remains
     requires first { IsFirst lock.now.id pass }
     requires ring { OneRing ends.0 ends.1 }
     requires none { bytes_taken ends.1 ≡ [] }
     ensures ran { HasRun pass (whole ends.0) result (K.held out.old) (K.held out.new) }
     ensures grows { K.faults out.old ≤ K.faults out.new }
-    ensures cause { FaultRose result.served (K.faults out.old) (K.faults out.new) }
+    ensures cause { WriteCause (K.faults out.old) (K.faults out.new) result.served }
 {
     let (mut sink, mut presenter) = ends;
     let mut painters: Painters<ImagePainter> = Painters::new(alloc, most);
@@ -126,7 +126,7 @@ pub(crate) fn run_beside<R: Threads + Wait + Sync, K: Sink + Send>(
         { compose_all(rt, alloc, lock, bell, &mut place, &mut sink) },
     );
     let Some(pass) = place else { unreachable!() };
-    Ran {
+    Remains {
         sink,
         presenter,
         pass,
@@ -135,7 +135,7 @@ pub(crate) fn run_beside<R: Threads + Wait + Sync, K: Sink + Send>(
     }
 }
 
-// How the run ended, where all that the compositor wrote was put.
+// How the run ended, if all that the compositor wrote was put.
 fn ended(ending: Ending) -> Outcome
     ensures { result ≡ ended_as ending }
 {
@@ -146,13 +146,12 @@ fn ended(ending: Ending) -> Outcome
 }
 
 // How the run ended.
-fn told(presented: Presented, ending: Ending) -> Outcome
+fn told(presented: Result<(), PutFault>, ending: Ending) -> Outcome
     ensures { result ≡ joint_outcome presented ending }
 {
     match presented {
-        Presented::Written => ended(ending),
-        Presented::Fault => Outcome::WriteFault,
-        Presented::Memory => Outcome::Memory,
+        Ok(()) => ended(ending),
+        Err(fault) => Outcome::from(fault),
     }
 }
 
@@ -160,16 +159,16 @@ fn told(presented: Presented, ending: Ending) -> Outcome
 pub(crate) fn join_outcomes<R: Threads + Sync, K: Sink>(
     rt: &R,
     alloc: Global,
-    ran: Ran,
+    ran: Remains,
     most: usize,
     out: &mut K,
 ) -> Outcome
     requires { OneRing ran.sink ran.presenter }
     ensures ends { (p : Seat) (o : Origin) (before : List ℕ) (first : Option (List ℕ)) → p.stem ≡ Some o → HasRun p before ran first (K.held out.old) → PlayEnds o before first (K.held out.new) result }
     ensures grows { K.faults out.old ≤ K.faults out.new }
-    ensures cause { (count : ℕ) → count ≤ K.faults out.old → FaultRose ran.served count (K.faults out.old) → Causes 0 0 count (K.faults out.new) result }
+    ensures cause { (count : ℕ) → count ≤ K.faults out.old → WriteCause count (K.faults out.old) ran.served → Causes 0 0 count (K.faults out.new) result }
 {
-    let Ran {
+    let Remains {
         sink,
         presenter,
         served,

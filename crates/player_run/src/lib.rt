@@ -3,7 +3,7 @@
 //! of a client, `frames` takes the images out of a recording, `check` judges one, `gen NUMBER` makes a script, and
 //! `demo NUMBER` plays one and sums it up.
 //!
-//! `program` joins all; each use that plays has a module. What the words ask for is in `player_words`; how a run ends,
+//! `program` joins all; each use that plays has a module. What the words ask for, how a run ends,
 //! what reads its script, and the words that play nothing are in `player_uses`.
 #![tactic(auto)]
 
@@ -13,13 +13,16 @@ mod demo;
 mod filmed;
 pub mod laws;
 mod line_player;
+mod not_alone;
 mod play;
 mod program;
 mod serving;
 mod shot;
 mod step;
+mod streams;
 mod threads;
 
 pub use player_uses::Outcome;
 pub use program::{run, run_alone};
 pub use serving::serve;
+pub use streams::Streams;

@@ -4,11 +4,10 @@ ghost use Rattle.std.specs.Prelude.{◌≡◌, ◌≤◌, [], Ok, IfOk, IfSome, 
 ghost use Rattle.thread_pieces.specs.Ring.{OneRing, bytes_taken, whole};
 ghost use Rattle.model_history.specs.Recordings.{header};
 ghost use Rattle.script_json.specs.Recordings.{script_text};
-ghost use Rattle.player_uses.specs.Answers.{TellsMisfit, MayAnswer};
-ghost use Rattle.player_uses.specs.Reading.{Reads, ReadToEnd};
-ghost use Rattle.player_uses.specs.Faults.{Causes, StopsAtFault};
+ghost use Rattle.player_uses.specs.Faults.{Causes};
 ghost use Rattle.player_uses.specs.Outputs.{WritesOrBegins};
-ghost use Rattle.player_run.specs.Runs.{CauseFrom, IsPlayOf, IsPlayUpTo, Writes};
+ghost use Rattle.player_run.specs.Ran.{Did};
+ghost use Rattle.player_run.specs.Runs.{IsPlayOf, IsPlayUpTo};
 
 use crate::crew::crew_of;
 use crate::step::play_lockstep;
@@ -62,7 +61,7 @@ fn play_threads<R: Threads + Wait + Sync, G: Gate + Sync, K: Sink + Send>(
     run_crew(rt, alloc, crew, ends, out)
 }
 
-// Plays a script by actors on threads, or where they cannot be started, in lockstep.
+// Plays a script by actors on threads, or if they cannot be started, in lockstep.
 #[tactic(auto, using(crate::proofs::PlayedRuns::lockstep_plays))]
 fn play<R: Threads + Wait + Sync, K: Sink + Send, G: Gate + Sync>(
     rt: &R,
@@ -88,8 +87,7 @@ fn play<R: Threads + Wait + Sync, K: Sink + Send, G: Gate + Sync>(
 
 /// Plays the script of the source by actors on threads, the given number of raster workers among them, and
 /// writes its recording.
-#[tactic(auto, using(crate::proofs::ScriptsActed::acted_output, crate::proofs::ScriptsActed::acted_cause, crate::proofs::ScriptsActed::acted_words, player_uses::proofs::Answered::begun_script, player_uses::proofs::Answered::begun_stops))]
-pub fn run_play<R: Threads + Wait + Sync, S: Source, K: Sink + Send, G: Gate + Sync>(
+pub(crate) fn run_play<R: Threads + Wait + Sync, S: Source, K: Sink + Send, G: Gate + Sync>(
     rt: &R,
     alloc: Global,
     workers: u32,
@@ -98,14 +96,7 @@ pub fn run_play<R: Threads + Wait + Sync, S: Source, K: Sink + Send, G: Gate + S
     gate: &G,
 ) -> Outcome
     requires { (1 ≤ workers) × (workers ≤ 16) }
-    ensures words { TellsMisfit (Ok (Use.Play workers)) result }
-    ensures input { CauseFrom (Use.Play workers) (S.left source.old) result }
-    ensures reads { Reads (Use.Play workers) (S.left source.old) (S.left source.new) }
-    ensures end { ReadToEnd (Use.Play workers) (S.left source.new) result }
-    ensures output { Writes (Use.Play workers) (S.left source.old) (K.held out.old) (K.held out.new) result }
-    ensures cause { Causes (S.faults source.old) (S.faults source.new) (K.faults out.old) (K.faults out.new) result }
-    ensures answers { MayAnswer (Use.Play workers) result }
-    ensures stops { StopsAtFault (S.faults source.old) (S.faults source.new) (S.has_failed source.new) result }
+    ensures { Did S.Source K.Sink (Ok (Use.Play workers)) source.old source.new out.old out.new result }
 {
     match read_script_from(alloc, source) {
         Ok(script) => play(rt, alloc, script, workers, out, gate),

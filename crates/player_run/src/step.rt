@@ -1,11 +1,10 @@
 //! A script of the source, played in lockstep.
 
 ghost use Rattle.std.specs.Prelude.{◌≡◌, ◌≤◌, Ok};
-ghost use Rattle.player_uses.specs.Answers.{TellsMisfit, MayAnswer};
-ghost use Rattle.player_uses.specs.Reading.{Reads, ReadToEnd};
-ghost use Rattle.player_uses.specs.Faults.{Causes, StopsAtFault};
+ghost use Rattle.player_uses.specs.Faults.{Causes};
 ghost use Rattle.player_uses.specs.Outputs.{WritesSome};
-ghost use Rattle.player_run.specs.Runs.{CauseFrom, IsRunOf, Writes};
+ghost use Rattle.player_run.specs.Ran.{Did};
+ghost use Rattle.player_run.specs.Runs.{IsRunOf};
 
 use byte_io::{Sink, Source};
 use model_history::Script;
@@ -14,7 +13,6 @@ use player_uses::{Outcome, Use, read_script_from};
 use std::alloc::Global;
 use std::sync::Arc;
 use std::thread::Threads;
-use thread_pieces::WriteStop;
 
 // All was done with a run, which is given up.
 fn done_with(_run: Recorded) -> Outcome
@@ -39,12 +37,11 @@ pub(crate) fn play_lockstep<R: Threads + Sync, K: Sink>(
     script.is_accepted();
     match record_lockstep(rt, alloc, script, workers, Retention::Newest, out) {
         Ok(run) => done_with(run),
-        Err(WriteStop::Fault) => Outcome::WriteFault,
-        Err(WriteStop::Memory) => Outcome::Memory,
+        Err(fault) => Outcome::from(fault),
     }
 }
 
-/// The same, where the script is not shared yet.
+/// The same, if the script is not shared yet.
 pub(crate) fn play<R: Threads + Sync, K: Sink>(
     rt: &R,
     alloc: Global,
@@ -64,8 +61,7 @@ pub(crate) fn play<R: Threads + Sync, K: Sink>(
 }
 
 /// Plays the script of the source in lockstep with the given number of raster workers, and writes its recording.
-#[tactic(auto, using(crate::proofs::ScriptsPlayed::script_output, crate::proofs::ScriptsPlayed::script_cause, player_uses::proofs::Outputs::some_words, player_uses::proofs::Answered::some_script, player_uses::proofs::Answered::some_stops))]
-pub fn run_step<R: Threads + Sync, S: Source, K: Sink>(
+pub(crate) fn run_step<R: Threads + Sync, S: Source, K: Sink>(
     rt: &R,
     alloc: Global,
     workers: u32,
@@ -73,14 +69,7 @@ pub fn run_step<R: Threads + Sync, S: Source, K: Sink>(
     out: &mut K,
 ) -> Outcome
     requires { (1 ≤ workers) × (workers ≤ 16) }
-    ensures words { TellsMisfit (Ok (Use.Step workers)) result }
-    ensures input { CauseFrom (Use.Step workers) (S.left source.old) result }
-    ensures reads { Reads (Use.Step workers) (S.left source.old) (S.left source.new) }
-    ensures end { ReadToEnd (Use.Step workers) (S.left source.new) result }
-    ensures output { Writes (Use.Step workers) (S.left source.old) (K.held out.old) (K.held out.new) result }
-    ensures cause { Causes (S.faults source.old) (S.faults source.new) (K.faults out.old) (K.faults out.new) result }
-    ensures answers { MayAnswer (Use.Step workers) result }
-    ensures stops { StopsAtFault (S.faults source.old) (S.faults source.new) (S.has_failed source.new) result }
+    ensures { Did S.Source K.Sink (Ok (Use.Step workers)) source.old source.new out.old out.new result }
 {
     match read_script_from(alloc, source) {
         Ok(script) => play(rt, alloc, script, workers, out),

@@ -2,7 +2,7 @@
 
 ghost use Rattle.std.specs.Prelude.{◌≡◌, ◌≤◌, [], Some, All, MatchOption, IfSome};
 ghost use Rattle.thread_pieces.specs.Ring.{OneRing, bytes_taken, whole};
-ghost use Rattle.thread_pieces.specs.Answers.{FaultRose};
+ghost use Rattle.byte_io.specs.Pieces.{WriteCause};
 ghost use Rattle.impl_core.specs.Origins.{Origin};
 ghost use Rattle.proxy_threads.specs.Seats.{Of};
 ghost use Rattle.proxy_threads.specs.MainTurns.{MainIsReady};
@@ -10,7 +10,7 @@ ghost use Rattle.proxy_threads.specs.WorkTurns.{WorkIsReady};
 ghost use Rattle.player_uses.specs.Faults.{Causes};
 ghost use Rattle.player_run.specs.inner.Actors.{HasRun, IsFirst, PlayEnds};
 
-use crate::beside::{Ran, join_outcomes, run_beside, take_back};
+use crate::beside::{Remains, join_outcomes, run_beside, take_back};
 use crate::crew::Crew;
 use byte_io::{Gate, Sink};
 use impl_core::Core;
@@ -85,7 +85,7 @@ fn run_started<'s, E, R: Threads + Wait + Sync, G: Gate + Sync, K: Sink + Send>(
     workers: Vec<RasterActor<'s, G>>,
     ends: (RingSink, Presenter),
     out: &mut K,
-) -> Option<Ran>
+) -> Option<Remains>
     requires first { IsFirst lock.now.id pass }
     requires main { Of main.pass (MainIsReady lock.now.id main.host) }
     requires workers { All (λ worker. Of worker.pass (WorkIsReady lock.now.id worker.worker)) workers.items }
@@ -93,7 +93,7 @@ fn run_started<'s, E, R: Threads + Wait + Sync, G: Gate + Sync, K: Sink + Send>(
     requires none { bytes_taken ends.1 ≡ [] }
     ensures ran { MatchOption result (out.new ≡ out.old) (λ ran. HasRun pass (whole ends.0) ran (K.held out.old) (K.held out.new)) }
     ensures grows { K.faults out.old ≤ K.faults out.new }
-    ensures cause { IfSome result (λ ran. FaultRose ran.served (K.faults out.old) (K.faults out.new)) }
+    ensures cause { IfSome result (λ ran. WriteCause (K.faults out.old) (K.faults out.new) ran.served) }
 {
     let most = workers.len();
     if !start(scope, rt, lock, bell, main, workers) {
@@ -116,7 +116,7 @@ fn run_scope<'g, R: Threads + Wait + Sync, G: Gate + Sync, K: Sink + Send>(
     workers: Vec<RasterActor<'g, G>>,
     ends: (RingSink, Presenter),
     out: &mut K,
-) -> Option<Ran>
+) -> Option<Remains>
     requires first { IsFirst lock.now.id pass }
     requires main { Of main.pass (MainIsReady lock.now.id main.host) }
     requires workers { All (λ worker. Of worker.pass (WorkIsReady lock.now.id worker.worker)) workers.items }
@@ -124,7 +124,7 @@ fn run_scope<'g, R: Threads + Wait + Sync, G: Gate + Sync, K: Sink + Send>(
     requires none { bytes_taken ends.1 ≡ [] }
     ensures ran { MatchOption result (out.new ≡ out.old) (λ ran. HasRun pass (whole ends.0) ran (K.held out.old) (K.held out.new)) }
     ensures grows { K.faults out.old ≤ K.faults out.new }
-    ensures cause { IfSome result (λ ran. FaultRose ran.served (K.faults out.old) (K.faults out.new)) }
+    ensures cause { IfSome result (λ ran. WriteCause (K.faults out.old) (K.faults out.new) ran.served) }
 {
     let Ok(bell) = ends.0.bell() else {
         return None;
@@ -133,7 +133,7 @@ fn run_scope<'g, R: Threads + Wait + Sync, G: Gate + Sync, K: Sink + Send>(
     let (out, ran) = thread::scope(
         thread::scope_env(),
         rt,
-        move |scope| -> (&mut K, Option<Ran>)
+        move |scope| -> (&mut K, Option<Remains>)
             requires first { IsFirst lock.now.id pass }
             requires main { Of main.pass (MainIsReady lock.now.id main.host) }
             requires workers { All (λ worker. Of worker.pass (WorkIsReady lock.now.id worker.worker)) workers.items }
@@ -142,7 +142,7 @@ fn run_scope<'g, R: Threads + Wait + Sync, G: Gate + Sync, K: Sink + Send>(
             ensures same_reference { result.0.ghost_name ≡ out.entry.ghost_name }
             ensures ran { MatchOption result.1 (result.0.now ≡ out.entry.now) (λ ran. HasRun pass (whole ends.0) ran (K.held out.entry.now) (K.held result.0.now)) }
             ensures grows { K.faults out.entry.now ≤ K.faults result.0.now }
-            ensures cause { IfSome result.1 (λ ran. FaultRose ran.served (K.faults out.entry.now) (K.faults result.0.now)) }
+            ensures cause { IfSome result.1 (λ ran. WriteCause (K.faults out.entry.now) (K.faults result.0.now) ran.served) }
         {
             let ran = run_started(scope, rt, alloc, lock, bell, pass, main, workers, ends, out);
             (out, ran)

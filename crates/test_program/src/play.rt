@@ -2,7 +2,7 @@
 
 use byte_io::{MemSink, MemSource};
 use player_lines::{Ends, Session};
-use player_run::{run, run_alone};
+use player_run::{Streams, run, run_alone};
 use std::alloc::{AllocError, Global};
 use std::sync::Wait;
 use std::thread::Threads;
@@ -12,12 +12,9 @@ use test_cases::{
 
 /// Where a run reads and writes, all in memory, and where its workers pass.
 #[derive(Drop)]
-struct Streams<'a> {
-    source: MemSource,
-    out: WaitingSink<'a>,
-    notes: MemSink,
+struct Stage<'a> {
+    streams: Streams<MemSource, WaitingSink<'a>, MemSink, Ends<MemSource, MemSink>>,
     gate: MeetingGate<'a>,
-    session: Session<Ends<MemSource, MemSink>>,
 }
 
 /// A source that gives nothing.
@@ -30,8 +27,8 @@ fn silent(alloc: Global) -> Session<Ends<MemSource, MemSink>> {
     Session::new(Ends::new(no_source(alloc), MemSink::endless(alloc)))
 }
 
-impl<'a> Streams<'a> {
-    /// Makes a run by this call. Answers the status that it ended with; None where `run_alone` answers so. No other
+impl<'a> Stage<'a> {
+    /// Makes a run by this call. Answers the status that it ended with; None if `run_alone` answers so. No other
     /// function calls the program: each that does is proved with its whole contract.
     fn run<R: Threads + Wait + Sync>(
         &mut self,
@@ -41,24 +38,8 @@ impl<'a> Streams<'a> {
         words: &[String],
     ) -> Option<u8> {
         let outcome = match call {
-            Call::Run => Some(run(
-                rt,
-                alloc,
-                words,
-                &mut self.source,
-                &mut self.out,
-                &mut self.notes,
-                &self.gate,
-                &mut self.session,
-            )),
-            Call::Alone | Call::Declined => run_alone(
-                rt,
-                alloc,
-                words,
-                &mut self.source,
-                &mut self.out,
-                &mut self.notes,
-            ),
+            Call::Run => Some(run(rt, alloc, words, &mut self.streams, &self.gate)),
+            Call::Alone | Call::Declined => run_alone(rt, alloc, words, &mut self.streams),
         };
         match outcome {
             Some(outcome) => Some(outcome.status()),
@@ -66,14 +47,15 @@ impl<'a> Streams<'a> {
         }
     }
 
-    /// What was written, or what the client of the session took, where that is asked for; and the notes.
+    /// What was written, or what the client of the session took, if that is asked for; and the notes.
     fn into_outs(self, is_served: bool) -> (MemSink, MemSink) {
+        let Stage { streams, .. } = self;
         let Streams {
             out,
             notes,
             session,
             ..
-        } = self;
+        } = streams;
         if is_served {
             return (session.into_client().into_out(), notes);
         }
@@ -91,22 +73,23 @@ fn run_over<R: Threads + Wait + Sync>(
     let words = [word.to_string(alloc)?];
     let recording = Vec::from_slice(alloc, recording)?;
     let meeting = Meeting::new();
-    let mut streams = Streams {
+    let streams = Streams {
         source: MemSource::new(recording, 4096, Vec::new(alloc)),
         out: WaitingSink::new(MemSink::endless(alloc), &meeting, None),
         notes: MemSink::endless(alloc),
-        gate: MeetingGate {
-            meeting: &meeting,
-            gathering: Gathering::Nobody,
-        },
         session: silent(alloc),
     };
-    let status = streams.run(rt, alloc, Call::Run, &words);
-    let (out, _) = streams.into_outs(false);
+    let gate = MeetingGate {
+        meeting: &meeting,
+        gathering: Gathering::Nobody,
+    };
+    let mut stage = Stage { streams, gate };
+    let status = stage.run(rt, alloc, Call::Run, &words);
+    let (out, _) = stage.into_outs(false);
     Ok((status, out))
 }
 
-/// The pictures of a recording; None where it is not legal.
+/// The pictures of a recording; None if it is not legal.
 fn pictures_of<R: Threads + Wait + Sync>(
     rt: &R,
     alloc: Global,
@@ -122,12 +105,12 @@ fn pictures_of<R: Threads + Wait + Sync>(
 
 /// What the run of this number is given. A session has a client that gives what the source gives, and takes what the sink
 /// takes; then the source and the sink of the run are empty, and have to stay so.
-fn streams_of<'a>(
+fn stage_of<'a>(
     alloc: Global,
     case: &'a Case,
     meeting: &'a Meeting,
     number: u64,
-) -> Result<Streams<'a>, ProgramRowFault> {
+) -> Result<Stage<'a>, ProgramRowFault> {
     let source = case.source(alloc, number)?;
     let out = case.sink(alloc, number)?;
     let notes = case.notes(alloc);
@@ -136,21 +119,21 @@ fn streams_of<'a>(
         gathering: case.gathering,
     };
     if case.is_served() {
-        return Ok(Streams {
+        let streams = Streams {
             source: no_source(alloc),
             out: WaitingSink::new(MemSink::new(alloc, 0, Vec::new(alloc)), meeting, None),
             notes,
-            gate,
             session: Session::new(Ends::new(source, out)),
-        });
+        };
+        return Ok(Stage { streams, gate });
     }
-    Ok(Streams {
+    let streams = Streams {
         source,
         out: WaitingSink::new(out, meeting, case.sink_wait.as_ref()),
         notes,
-        gate,
         session: silent(alloc),
-    })
+    };
+    Ok(Stage { streams, gate })
 }
 
 /// The run of this number.
@@ -161,9 +144,9 @@ fn play<R: Threads + Wait + Sync>(
     number: u64,
 ) -> Result<RunOutput, ProgramRowFault> {
     let meeting = Meeting::new();
-    let mut streams = streams_of(alloc, case, &meeting, number)?;
-    let status = streams.run(rt, alloc, case.call, case.words.as_slice());
-    let (mut out, notes) = streams.into_outs(case.is_served());
+    let mut stage = stage_of(alloc, case, &meeting, number)?;
+    let status = stage.run(rt, alloc, case.call, case.words.as_slice());
+    let (mut out, notes) = stage.into_outs(case.is_served());
     let mut accepted = true;
     if case.recording {
         match pictures_of(rt, alloc, out.bytes())? {

@@ -1,12 +1,10 @@
 -- What the actors of a run left.
-use Rattle.std.specs.Prelude.{◌≡◌, ℕ, Bool, true, false, ◌&&◌, cond, List, [], ◌++◌, Option, Some}
+use Rattle.std.specs.Prelude.{◌≡◌, ℕ, Bool, true, false, ◌&&◌, cond, List, [], ◌++◌, Option, Some, Result, Ok, Err}
 use Rattle.std.specs.Io.KnownBytes.{Appends}
 use Rattle.atomic_table.specs.Seated.{TableId}
-use Rattle.byte_io.specs.Pieces.{GainsPrefix}
+use Rattle.byte_io.specs.Pieces.{GainsPrefix, PutsAll}
 use Rattle.thread_pieces.specs.Ring.{OneRing, bytes_taken, whole}
-use Rattle.thread_pieces.specs.Answers.{Gained}
-use Rattle.thread_pieces.specs.declared.ends.Presented.{Presented}
-use Rattle.thread_pieces.specs.declared.ends.Presented.TheVariants as presented
+use Rattle.byte_io.specs.declared.writing.PutFault.{PutFault}
 use Rattle.model_history.specs.Legal.{Legal}
 use Rattle.impl_log.specs.Runs.{Run, past}
 use Rattle.impl_core.specs.Origins.{Origin, origin_of}
@@ -15,8 +13,9 @@ use Rattle.proxy_threads.specs.Seats.{Seat, pairs}
 use Rattle.proxy_threads.specs.Writing.{part, Driven, FaultCause, KnowsEnd}
 use Rattle.proxy_threads.specs.declared.turned.Turned.{Turned}
 use Rattle.proxy_threads.specs.declared.turned.Turned.TheVariants as turned
+use Rattle.player_uses.specs.Outcomes.{fault_outcome}
 use Rattle.player_run.specs.declared.beside.Ending.{Ending}
-use Rattle.player_run.specs.declared.beside.Ran.{Ran}
+use Rattle.player_run.specs.declared.beside.Remains.{Remains}
 use Rattle.player_uses.specs.declared.outcome.Outcome.{Outcome}
 use Rattle.player_uses.specs.declared.outcome.Outcome.TheVariants.{Done, WriteFault, Memory}
 
@@ -54,11 +53,11 @@ pub record Drove (p q : Seat) (old new : Option (List ℕ)) (ending : Ending) : 
   pub over : KnowsEnd (Some q) ending.over ending.last
 
 -- the compositor put its part into the ring after what was there, and the sink gained what the presenter took
-pub record HasRun (p : Seat) (before : List ℕ) (ran : Ran) (old new : Option (List ℕ)) : Type 0 where
+pub record HasRun (p : Seat) (before : List ℕ) (ran : Remains) (old new : Option (List ℕ)) : Type 0 where
   pub ring : OneRing ran.sink ran.presenter
   pub drove : Drove p ran.pass (Some before) (Some (whole ran.sink)) ran.ending
   pub calm : FaultCause 0 0 ran.ending.last
-  pub gained : Gained ran.served old new (bytes_taken ran.presenter)
+  pub gained : PutsAll old new (bytes_taken ran.presenter) ran.served
 
 -- a legal run of this script and the given number of workers
 pub record IsRunAt (o : Origin) (r : Run) : Type 0 where
@@ -77,7 +76,6 @@ abbrev pub ended_as : Ending → Outcome
 ended_as ending = cond (is_whole ending) Done Memory
 
 -- how the run ended
-abbrev pub joint_outcome : Presented → Ending → Outcome
-joint_outcome presented.Written ending = ended_as ending
-joint_outcome presented.Fault ending = WriteFault
-joint_outcome presented.Memory ending = Memory
+abbrev pub joint_outcome : {X : Type 0} → Result X PutFault → Ending → Outcome
+joint_outcome (Ok _) ending = ended_as ending
+joint_outcome (Err fault) ending = fault_outcome fault

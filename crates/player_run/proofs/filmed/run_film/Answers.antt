@@ -1,0 +1,17 @@
+-- What was written is what the script of the source asked for.
+use Rattle.std.proofs.Common.{refl}
+use Rattle.player_uses.specs.declared.words.Use.TheVariants.{Film}
+use Rattle.player_lockstep.specs.Films.{IsLockstepFilm}
+use Rattle.player_run.proofs.ScriptsPlayed.{some_plays, did_play, did_stop}
+use Rattle.player_run.proofs.filmed.run_film.Goals as goal
+
+pub returns-in-Ok : goal.returns-in-Ok
+returns-in-Ok g c =
+    did_play g.S.Source g.K.Sink (Film c.args.workers) c.args.source.now c.read_script_from.new.source c.args.out.now c.film.new.out c.in-Ok.script c.film.result
+    tt (record { said = c.in-Ok.script; text = c.in-Ok.ensures.script.0; accepted = c.in-Ok.ensures.script.2; asked = refl; whole = c.in-Ok.ensures.script.1 }) c.read_script_from.ensures.reads c.in-Ok.ensures.stops
+    (some_plays (IsLockstepFilm c.in-Ok.script) (Film c.args.workers) c.in-Ok.script (g.K.Sink.held c.args.out.now) (g.K.Sink.held c.film.new.out) c.film.result (λ whole is. is) c.film.ensures.films) c.film.ensures.cause
+
+pub returns-in-Err : goal.returns-in-Err
+returns-in-Err g c =
+    did_stop g.S.Source g.K.Sink (Film c.args.workers) c.args.source.now c.read_script_from.new.source c.args.out.now c.in-Err.outcome
+    tt c.in-Err.ensures.script c.read_script_from.ensures.reads c.in-Err.ensures.cause c.in-Err.ensures.answers c.in-Err.ensures.stops

@@ -1,0 +1,23 @@
+-- What was done, and what the notes gained.
+use Rattle.std.specs.Prelude.{◌≡◌, ℕ, Result, Ok, Err}
+use Rattle.std.proofs.Common.{refl, sym, subst, ap, ◌∙◌}
+use Rattle.player_uses.specs.Words.{IsFew}
+use Rattle.player_uses.specs.declared.words.Use.{Use}
+use Rattle.player_uses.specs.declared.outcome.Outcome.TheVariants.{Usage}
+use Rattle.player_run.specs.Ran.{Ran}
+use Rattle.player_run.proofs.DoneUses.{did_nothing, nothing_passed}
+use Rattle.player_run.proofs.program.run_words.Goals as goal
+
+pub returns-in-Err-clause-ran : goal.returns-in-Err-clause-ran
+returns-in-Err-clause-ran g c =
+    subst (λ (asked : Result Use ℕ). Ran g.S.Source g.K.Sink g.E.Sink g.C.Client asked c.args.streams.now (record c.args.streams.now { notes = c.tell.new.notes }) (Usage c.in-Err.word)) c.in-Err.ensures.found
+    (record { did = did_nothing g.S.Source g.K.Sink c.in-Err.word c.args.streams.now.source c.args.streams.now.out; serves = refl; told = c.tell.ensures })
+
+pub returns-in-Ok-run_use-clause-ran : goal.returns-in-Ok-run_use-clause-ran
+returns-in-Ok-run_use-clause-ran g c =
+    subst (λ (asked : Result Use ℕ). Ran g.S.Source g.K.Sink g.E.Sink g.C.Client asked c.args.streams.now (record c.args.streams.now { source = c.run_use.new.source; out = c.run_use.new.out; notes = c.tell-in-Ok-run_use.new.notes }) c.in-Ok-run_use.outcome) c.in-Ok.ensures.found
+    (record {
+      did = c.in-Ok-run_use.ensures.did;
+      serves = nothing_passed g.C.Client c.in-Ok.wanted c.args.streams.now.session c.in-Ok-run_use.outcome (sym c.in-Ok-run_use.ensures.alone);
+      told = c.tell-in-Ok-run_use.ensures;
+    })
