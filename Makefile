@@ -12,6 +12,8 @@ VIEWER := file://$(CURDIR)/tools/viewer.html
 # Where `make install` puts program, manual page and completions; DESTDIR stands before it where a package is made.
 PREFIX := /usr/local
 DESTDIR :=
+# Where `make install-lib` puts libraries below PREFIX; Debian has a folder for each processor.
+LIBDIR := lib
 VERSION := 0.1.0
 # What `make install` installs, and where below DESTDIR and PREFIX.
 MANUAL := share/man/man1/cc_player.1
@@ -20,14 +22,16 @@ ZSH_WORDS := share/zsh/site-functions/_cc_player
 FISH_WORDS := share/fish/vendor_completions.d/cc_player.fish
 # What `make install-lib` installs there. The number of the interface is that of include/cc.h, read where it is asked for.
 SONAME = libcc.so.$(shell sed -n 's/^.define CC_VERSION //p' include/cc.h)
-LIBRARY = include/cc.h lib/libcc.a lib/$(SONAME) lib/libcc.so lib/pkgconfig/cc.pc
+CMAKE_FILES = cmake/cc_compositor/cc_compositor-config.cmake cmake/cc_compositor/cc_compositor-config-version.cmake
+LIBRARY = include/cc.h share/man/man3/cc.3 \
+	$(addprefix $(LIBDIR)/,libcc.a $(SONAME) libcc.so pkgconfig/cc.pc $(CMAKE_FILES))
 
-.PHONY: build help demo pictures film view bench lib embed test audit check install install-lib uninstall dist clean kit python FORCE
+.PHONY: build help demo pictures film view bench lib embed test audit check install install-lib uninstall dist release deb try-release clean kit python FORCE
 
 build: $(PLAYER)
 
 help:
-	@echo 'make           the program, $(PLAYER): as `make check` built it, or else proved and built (about half an hour)'
+	@echo 'make           the program, $(PLAYER): as `make check` built it, or one that was copied there, or else proved and built (about half an hour)'
 	@echo 'make demo      plays examples/first.json without the proofs, and leaves its picture in build/ (a minute)'
 	@echo 'make test      runs all rows and tests without the proofs (minutes); ONLY=scroll: the rows with this word in their titles; CRATE=tile_queue: the rows of this crate'
 	@echo 'make pictures  plays every script in examples/ and leaves each picture in build/ as .ppm and .png'
@@ -39,9 +43,12 @@ help:
 	@echo 'make check     the gate: all proofs, edits, tests and programs, and our own checks (37 to 58 minutes at first, by the machine, then what changed): docs/GATE.md'
 	@echo 'make audit     tries all must-fail edits, also those that the gate leaves out (an hour or more); ONLY="geom pixel": of these crates; JOBS=4'
 	@echo 'make install   puts program, manual page and completions below DESTDIR and PREFIX (/usr/local)'
-	@echo 'make install-lib  the library for C, its header and cc.pc, in the same place'
+	@echo 'make install-lib  the library for C, its header, manual page, cc.pc and CMake files, in the same place (LIBDIR=lib)'
 	@echo 'make uninstall removes what these put there'
 	@echo 'make dist      packs the sources of the last commit into build/cc_player-VERSION.tar.gz'
+	@echo 'make release   program and library, both proved, as an archive, a wheel and a crate with checksums in build/release/: docs/RELEASE.md'
+	@echo 'make deb       the same and a package for Debian'
+	@echo 'make try-release  installs what stands in build/release/ in a root without the kit, and uses it'
 	@echo 'make clean     removes build/'
 
 kit:
@@ -51,7 +58,7 @@ python:
 	@command -v python3 > /dev/null || { echo 'python3 is missing: tools/ and bench/ need it' >&2; exit 1; }
 
 # It looks for itself whether the program is of the present text.
-$(PLAYER): kit python FORCE
+$(PLAYER): python FORCE
 	@python3 tools/built.py
 
 FORCE:
@@ -85,7 +92,7 @@ view: film
 bench: python $(PLAYER)
 	bench/step $(PLAYER)
 
-lib: kit python
+lib: python
 	@python3 tools/lib.py
 
 embed: lib $(PLAYER)
@@ -111,11 +118,15 @@ install: $(PLAYER)
 
 install-lib: lib
 	install -D -m 644 include/cc.h '$(DESTDIR)$(PREFIX)/include/cc.h'
-	install -D -m 644 build/libcc.a '$(DESTDIR)$(PREFIX)/lib/libcc.a'
-	install -D -m 755 build/$(SONAME) '$(DESTDIR)$(PREFIX)/lib/$(SONAME)'
-	ln -sf $(SONAME) '$(DESTDIR)$(PREFIX)/lib/libcc.so'
-	install -D -m 644 build/cc.pc '$(DESTDIR)$(PREFIX)/lib/pkgconfig/cc.pc'
-	sed -i 's|^libdir=.*|libdir=$(PREFIX)/lib|; s|^includedir=.*|includedir=$(PREFIX)/include|' '$(DESTDIR)$(PREFIX)/lib/pkgconfig/cc.pc'
+	install -D -m 644 man/cc.3 '$(DESTDIR)$(PREFIX)/share/man/man3/cc.3'
+	install -D -m 644 build/libcc.a '$(DESTDIR)$(PREFIX)/$(LIBDIR)/libcc.a'
+	install -D -m 755 build/$(SONAME) '$(DESTDIR)$(PREFIX)/$(LIBDIR)/$(SONAME)'
+	ln -sf $(SONAME) '$(DESTDIR)$(PREFIX)/$(LIBDIR)/libcc.so'
+	install -d '$(DESTDIR)$(PREFIX)/$(LIBDIR)/pkgconfig' '$(DESTDIR)$(PREFIX)/$(LIBDIR)/cmake/cc_compositor'
+	python3 tools/lib.py --pkg-config $(LIBDIR) > '$(DESTDIR)$(PREFIX)/$(LIBDIR)/pkgconfig/cc.pc'
+	for file in $(CMAKE_FILES); do \
+		sed 's/@VERSION@/$(VERSION)/' clients/cmake/$$(basename $$file) > '$(DESTDIR)$(PREFIX)/$(LIBDIR)/'$$file || exit 1; \
+	done
 
 uninstall:
 	rm -f '$(DESTDIR)$(PREFIX)/bin/cc_player' $(foreach file,$(MANUAL) $(BASH_WORDS) $(ZSH_WORDS) $(FISH_WORDS) $(LIBRARY),'$(DESTDIR)$(PREFIX)/$(file)')
@@ -123,6 +134,15 @@ uninstall:
 dist:
 	@mkdir -p build
 	git archive --format=tar.gz --prefix=cc_player-$(VERSION)/ -o build/cc_player-$(VERSION).tar.gz HEAD
+
+release: python $(PLAYER) lib
+	@python3 tools/release.py
+
+deb: python $(PLAYER) lib
+	@python3 tools/release.py --deb
+
+try-release:
+	@tools/try_release.sh build/release
 
 clean:
 	rm -rf build

@@ -3,8 +3,10 @@
 
 usage: tools/built.py [--sum | --note SUM]
 
-Where build/cc_player was built of the text that now stands in crates/, nothing is done. Where the gate's
-crates/cc_player/out/cc_player was, it is copied; and else the program is proved and built by `rt run`.
+Where build/cc_player was built of the text that now stands in crates/, nothing is done; nor where it was not built here
+(it has no note beside it), as one that somebody built elsewhere and copied there. Where the gate's
+crates/cc_player/out/cc_player was built of that text, it is copied; and else the program is proved and built by
+`rt run`.
 
 --sum prints a sum of the text, of crates.txt and of the kit's name. --note SUM is for the gate: it notes that
 crates/cc_player/out/cc_player and the libraries were built of the text with this sum, unless the text is another one
@@ -50,6 +52,18 @@ def write_note(program, text):
     note_of(program).write_text(f"{text} {file_sum(program)}\n")
 
 
+def is_foreign(program):
+    """Whether a program is there that was not built here: none is without its note but one that was copied."""
+    return program.is_file() and not note_of(program).exists()
+
+
+def put(built, program, text):
+    """Copies a program that was built of this text, its note first: no copy that breaks off looks foreign."""
+    program.parent.mkdir(exist_ok=True)
+    note_of(program).write_text(f"{text} {file_sum(built)}\n")
+    shutil.copy(built, program)
+
+
 def is_of(program, text):
     """Whether a program is there and is the one that was built of this text."""
     is_there = program.is_file() and note_of(program).is_file()
@@ -61,7 +75,13 @@ def main():
     words.add_argument("--sum", action="store_true", help="print the sum of the text")
     words.add_argument("--note", metavar="SUM", help="note the text of the program that the gate built")
     words = words.parse_args()
-    text, name = text_sum(), PLAYER.relative_to(ROOT)
+    name = PLAYER.relative_to(ROOT)
+    if not (words.sum or words.note) and is_foreign(PLAYER):
+        print(f"{name} was not built here, and is taken as it is (remove it to have it proved and built)")
+        return 0
+    if not shutil.which("rt"):
+        sys.exit("rt is missing: install the Rattle kit and put its bin/ on the PATH, or copy a built program to " + str(name))
+    text = text_sum()
     if words.sum:
         print(text)
     elif words.note:
@@ -75,9 +95,7 @@ def main():
             print(f"{name}: as the gate built it")
         elif subprocess.run(["rt", "run", "--", "--version"], cwd=CRATE).returncode or text_sum() != text:
             return 1
-        PLAYER.parent.mkdir(exist_ok=True)
-        shutil.copy(PROVED, PLAYER)
-        write_note(PLAYER, text)
+        put(PROVED, PLAYER, text)
     return 0
 
 

@@ -1,15 +1,20 @@
 #!/usr/bin/env python3
 """Builds the library for C: build/libcc.a, build/libcc.so with its soname, and build/cc.pc.
 
-usage: tools/lib.py [--into FOLDER]
+usage: tools/lib.py [--into FOLDER] [--own] [--pkg-config LIBDIR]
 
 `rt lib` proves crates/cc_c, and what it stands on, and builds the static library. The kit's heap shim, which calls the
 program's malloc, realloc and free, is put into the same archive. A shared library is linked from it that exports the
-functions of include/cc.h alone. Where those in FOLDER were built of the present text and header, nothing is done.
+functions of include/cc.h alone. Where those in FOLDER were built of the present text and header, nothing is done; nor
+where none of them was built here (they have no notes), as those that somebody copied there; --own builds them even so.
+
+--pkg-config prints cc.pc for an installation whose libraries lie in LIBDIR of its prefix (lib) and nothing else. It
+finds its folders by its own place, so the installation may be moved.
 
 Of the libraries below, those that the gate built of this text are taken (tools/gate_libraries.py).
 """
 import argparse
+import os
 import pathlib
 import re
 import shutil
@@ -19,7 +24,7 @@ import tempfile
 
 sys.dont_write_bytecode = True
 import machine
-from built import file_sum, is_of, text_sum, write_note
+from built import file_sum, is_foreign, is_of, note_of, text_sum, write_note
 from gate_libraries import kit, stamped
 
 ROOT = pathlib.Path(__file__).resolve().parent.parent
@@ -80,30 +85,51 @@ def link(compiler, archive, shared):
             "-Wl,--no-undefined", "-Wl,-z,noexecstack")
 
 
+def pkg_config(libdir, include):
+    """The text of cc.pc; both folders as they are reached from its own."""
+    return ("libdir=${pcfiledir}/%s\nincludedir=${pcfiledir}/%s\n\nName: cc\n"
+            "Description: a page compositor whose frames are proved\nVersion: %s\n"
+            "Libs: -L${libdir} -lcc\nCflags: -I${includedir}\n" % (libdir, include, version()))
+
+
+def write_pkg_config(into):
+    """Writes cc.pc for the libraries of a folder and the header of this tree."""
+    (into / "cc.pc").write_text(pkg_config(".", os.path.relpath(HEADER.parent, into)))
+
+
 def main():
     words = argparse.ArgumentParser(description=__doc__.splitlines()[0])
     words.add_argument("--into", type=pathlib.Path, default=ROOT / "build")
+    words.add_argument("--own", action="store_true", help="take no libraries that were copied there")
+    words.add_argument("--pkg-config", metavar="LIBDIR", help="print cc.pc for libraries in this folder of a prefix")
     words = words.parse_args()
+    if words.pkg_config:
+        print(pkg_config("..", os.path.relpath("include", pathlib.Path(words.pkg_config) / "pkgconfig")), end="")
+        return
     into = words.into.resolve()
+    archive, shared, numbered = into / "libcc.a", into / "libcc.so", into / ("libcc.so." + version())
+    libraries = (archive, numbered, shared)
+    if not words.own and all(is_foreign(library) for library in libraries):
+        print("%s and %s were not built here, and are taken as they are" % (archive, shared))
+        write_pkg_config(into)
+        return
     compiler = next(filter(shutil.which, COMPILERS), None) or stop("no C compiler is here (%s)" % ", ".join(COMPILERS))
-    shim = kit() / "c" / "liblibc_c.a"
-    number = version()
-    archive, shared, numbered = into / "libcc.a", into / "libcc.so", into / ("libcc.so." + number)
-    libraries, made_of = (archive, numbered, shared), library_sum()
+    shim, made_of = kit() / "c" / "liblibc_c.a", library_sum()
     if all(is_of(library, made_of) for library in libraries):
         print("%s and %s are of this text" % (archive, shared))
         return
     with stamped("cc_c"):
         prove(CRATE)
     into.mkdir(parents=True, exist_ok=True)
+    # Notes first: no library that breaks off looks as if it was copied there.
+    for library in libraries:
+        note_of(library).write_text("unfinished\n")
     merged(archive, [CRATE / "out" / "libcc_c.a", shim])
     link(compiler, archive, numbered)
     # A copy and no link: the gate takes no links in the tree.
     shared.unlink(missing_ok=True)
     shutil.copyfile(numbered, shared)
-    (into / "cc.pc").write_text(
-        "libdir=%s\nincludedir=%s\n\nName: cc\nDescription: a page compositor whose frames are proved\nVersion: %s\n"
-        "Libs: -L${libdir} -lcc\nCflags: -I${includedir}\n" % (into, HEADER.parent, number))
+    write_pkg_config(into)
     if library_sum() == made_of:
         for library in libraries:
             write_note(library, made_of)

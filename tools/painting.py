@@ -75,12 +75,11 @@ def meet(box, clip):
     return box if clip is None else (max(box[0], clip[0]), max(box[1], clip[1]), min(box[2], clip[2]), min(box[3], clip[3]))
 
 
-class Scene:
-    """A page at offsets of its scrollers, with the tiles that are missing: a set of layer, column and row."""
+class Places:
+    """Where the layers of a page lie at offsets of its scrollers."""
 
-    def __init__(self, page, offsets, missing, background):
-        self.page, self.offsets, self.missing, self.background = page, offsets, missing, (*colour_of(background), 255)
-        self.layers = [Placed(it, self.translation(it.transform), self.clip_box(it.clip), self.groups_of(it)) for it in page.layers]
+    def __init__(self, page, offsets):
+        self.page, self.offsets = page, offsets
 
     def translation(self, id):
         """How far what is under a transform is moved."""
@@ -98,6 +97,15 @@ class Scene:
             node = self.page.nodes["clip"][id]
             box, id = meet(moved(node["rect"], self.translation(node["transform"])), box), node["parent"]
         return box
+
+
+class Scene(Places):
+    """A page at offsets of its scrollers, with the tiles that are missing: a set of layer, column and row."""
+
+    def __init__(self, page, offsets, missing, background):
+        super().__init__(page, offsets)
+        self.missing, self.background = missing, (*colour_of(background), 255)
+        self.layers = [Placed(it, self.translation(it.transform), self.clip_box(it.clip), self.groups_of(it)) for it in page.layers]
 
     def groups_of(self, layer):
         """The effects of a layer that make groups, the outermost first."""

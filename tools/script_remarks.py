@@ -1,5 +1,7 @@
 """What is legal in a script and seldom meant: remarks on a script that is accepted."""
 
+import script_wheels
+
 SEEN_BY = 'docs/FORMAT.md, "When frames come"'
 
 
@@ -32,7 +34,11 @@ def played_at_most(script):
 
 
 def late_frames(script):
-    """Main frames that no picture can show."""
+    """Main frames that no picture can show; a script without inputs is a page, of which `shot` makes one."""
+    if not script["inputs"]:
+        yield ("it has no inputs: `shot` makes the picture of its last main frame, and `step`, `film` and `play` make none; "
+               "add an await of that frame and a draw for theirs")
+        return
     first, last = played_at_most(script), len(script["main"]) - 1
     if first <= last:
         which = f"main frame {first} is" if first == last else f"main frames {first} to {last} are"
@@ -79,7 +85,7 @@ def idle_raster(script):
 
 def told(script, most=6):
     """The remarks on an accepted script, each as a line."""
-    found = [line for remarks in (late_frames, bare_layers, idle_scrolls, early_draws, idle_raster) for line in remarks(script)]
+    found = [line for remarks in (late_frames, bare_layers, idle_scrolls, script_wheels.remarks, early_draws, idle_raster) for line in remarks(script)]
     yield from (f"  remark: {line}" for line in found[:most])
     if len(found) > most:
         yield f"  and {len(found) - most} more"

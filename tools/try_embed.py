@@ -108,6 +108,44 @@ def in_python(build, room):
     are_stored(room)
 
 
+# Each call that C forbids is an exception here, and the compositor of another thread stays whole.
+MISUSED = """
+import threading
+import cc
+
+def refuses(*calls):
+    for call in calls:
+        try:
+            call()
+        except RuntimeError:
+            continue
+        raise SystemExit(f"call {calls.index(call)} is taken")
+
+page = cc.Compositor(16, 16)
+faults = []
+calls = page.draw, page.size, page.close
+thread = threading.Thread(target=lambda: (refuses(*calls), faults.append(None)))
+thread.start()
+thread.join()
+page.commit()
+if not faults or page.draw() != (0, 16):
+    raise SystemExit("another thread is not refused")
+page.close()
+page.close()
+with cc.Compositor(16, 16) as other:
+    other.draw()
+for closed in page, other:
+    refuses(closed.draw, closed.size, closed.pixels, closed.damage, closed.commit, lambda: closed.is_changed,
+            lambda: closed.offset(1), lambda: closed.set_view(16, 16, 16))
+"""
+
+
+def misused_in_python(build, room):
+    run(sys.executable, "-c", MISUSED, env=dict(os.environ, CC_LIBRARY=str(build / "libcc.so"), PYTHONDONTWRITEBYTECODE="1",
+                                                PYTHONPATH=str(CLIENTS / "python")))
+    return "each is an exception"
+
+
 def in_rust(build, room):
     words = ["cargo", "run", "--quiet", "--offline", "--release", "--example", "demo"]
     here = dict(os.environ, CC_LIB=str(build))
@@ -306,6 +344,7 @@ def tries(build, program, pages, seed):
              (compiler, "first.c", lambda room: the_first(compiler, build, room)),
              (compiler, "errors, null pointers and buffers", lambda room: the_rules(compiler, build, room)),
              (sys.executable, "demo in Python", lambda room: in_python(build, room)),
+             (sys.executable, "use after the end, and by another thread, in Python", lambda room: misused_in_python(build, room)),
              ("cargo", "demo in Rust", lambda room: in_rust(build, room)),
              (str(program), "random pages", lambda room: random_pages(build, program, pages, seed))]
     slow = [(other, "demo by " + other, lambda room, c=other: in_c(c, build, room))
@@ -333,7 +372,7 @@ def main():
         print("skipped: the library for C (no %s is here)" % ", ".join(COMPILERS))
         return
     if asked.gate:
-        subprocess.run([sys.executable, ROOT / "tools" / "lib.py", "--into", build], check=True)
+        subprocess.run([sys.executable, ROOT / "tools" / "lib.py", "--own", "--into", build], check=True)
     if not (build / "libcc.a").exists():
         sys.exit("try_embed: %s has no libcc.a: make lib" % build)
     quick, slow = tries(build, program, asked.pages or (20 if asked.gate else 60), asked.seed)

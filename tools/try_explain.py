@@ -22,7 +22,9 @@ sys.dont_write_bytecode = True
 import explain
 import judge
 import page
+import painting
 import recording
+import script_wheels
 from built import PROVED
 from tally import Tally
 
@@ -143,6 +145,45 @@ def try_accepted():
         check(f"explained: {line}", len(explain.told("page.json", b"", line)[0]) == 2)
 
 
+# What is added to BASE, the inputs that follow an await of frame 0, and what the one remark says; nothing where it is empty.
+SCROLLER = [{"op": "add_scroller", "id": 1, "parent": 0, "max_x": 0, "max_y": 3},
+            {"op": "add_transform", "id": 1, "parent": 0, "x": 0, "y": 0, "scroller": 1},
+            {"op": "add_layer", "id": 3, "at": 0, "transform": 1, "clip": 0, "effect": 0, "w": 4, "h": 2, "colour": "00000000"},
+            {"op": "insert_item", "layer": 3, "at": 0, "rect": [0, 0, 4, 2], "colour": "0000ffff"}]
+SMALL = [{"op": "resize_layer", "id": it, "w": 1, "h": 1} for it in (1, 2)]
+
+
+def wheel(x, y, dx, dy):
+    return {"op": "wheel", "x": x, "y": y, "dx": dx, "dy": dy}
+
+
+SCROLLS = [
+    ("a wheel over a layer that does not scroll", SCROLLER, [wheel(3, 1, 0, 1)], "the wheel of input 1 moves nothing: layer 2 is uppermost at 3, 1,"),
+    ("wheels where no layer lies", SCROLLER + SMALL, [wheel(3, 3, 0, 1)] * 3, "the 3 wheels of inputs 1 to 3 move nothing: no layer lies at 3, 3"),
+    ("a wheel that scrolls", SCROLLER + SMALL, [wheel(3, 1, 0, 1)], ""),
+    ("a wheel after the layer has gone up", SCROLLER + SMALL, [wheel(3, 1, 0, 1), wheel(3, 1, 0, 1)], "the wheel of input 2 moves nothing: no layer lies"),
+    ("a wheel the other way", SCROLLER + SMALL, [wheel(3, 1, 1, 0)], "scroller 1 of layer 3 at 3, 1 can go no further that way"),
+    ("a scroll past the end", SCROLLER, [{"op": "scroll", "scroller": 1, "dx": 0, "dy": 9}] * 2, "the scroll of input 2 moves nothing: scroller 1"),
+    ("a wheel over what is hidden", SCROLLER + SMALL + [{"op": "set_opacity", "id": 1, "opacity": 0}], [wheel(0, 0, 0, 1)], "layer 2 is uppermost"),
+]
+
+
+def try_scrolls():
+    """Remarks on wheels and scrolls that move nothing, and a script that is for `shot`."""
+    for what, commands, inputs, wanted in SCROLLS:
+        script = json.loads(BASE)
+        script["main"][0] += commands
+        script["inputs"] = [{"op": "await", "frame": 0}, *inputs, {"op": "draw"}]
+        lines, is_fine = explain.told("page.json", json.dumps(script).encode(), "")
+        check(what, is_fine and len(lines) == (2 if wanted else 1) and wanted in lines[-1], lines)
+        script["inputs"][0] = {"op": "settle"}
+        lines, _ = explain.told("page.json", json.dumps(script).encode(), "")
+        check(f"{what}: nothing is said of a page that may not be there yet", not any("nothing:" in it for it in lines), lines)
+    script = {**json.loads(BASE), "inputs": []}
+    lines, is_fine = explain.told("page.json", json.dumps(script).encode(), "")
+    check("a script for shot", is_fine and len(lines) == 2 and "`shot` makes the picture" in lines[1] and "no picture shows it" not in lines[1], lines)
+
+
 # Recordings
 
 def changed_recordings(whole):
@@ -183,11 +224,24 @@ def try_frames(program):
     check("the events of FORMAT, When frames come", told + ["end"] == events, events)
 
 
+def is_told(scrolled, line):
+    """Whether the line of an event tells the same of a wheel or a scroll."""
+    word, _, *fields = line.split(" ")
+    if word == "scroll":
+        return fields[0] == "{},{}".format(*scrolled.moves[0][1:])
+    return fields[0] == str(scrolled.layer) and painting.moves_of(fields[2:]) == scrolled.moves
+
+
 def try_played(program, paths):
-    """What the program plays: each picture is what painting.py paints, and judge.py refuses no event."""
+    """What the program plays: each picture is what painting.py paints, judge.py refuses no event, and what wheels and
+    scrolls move is what script_wheels.py tells of the script."""
+    followed = 0
     for path in paths:
         played = recording.Recording(subprocess.run([program, "step", "1"], input=path.read_bytes(), capture_output=True).stdout)
-        course, refused = judge.Course(played.script), []
+        course, refused, told = judge.Course(played.script), [], list(script_wheels.scrolled(played.script))
+        followed += len(told)
+        lines = {int(it.line.split()[1]): it.line for it in played.events() if it.line.split()[0] in script_wheels.SCROLLING}
+        check(f"wheels: {path.name}", all(is_told(it, lines[it.place]) for it in told), lines)
         for event in played.events():
             told = course.refusal(event.line)
             refused += [event.index] if told and told not in judge.UNLOOKED.values() else []
@@ -196,6 +250,7 @@ def try_played(program, paths):
                 difference = judge.image_difference(played, course.shown, event)
                 check(f"painting: {path.name}, event {event.index}", difference is None, difference)
         check(f"judge: {path.name}", not refused, refused)
+    check("wheels and scrolls are followed", followed > 50, followed)
 
 
 # page.py
@@ -252,6 +307,7 @@ def main():
         sys.exit(f"try_explain: {program} is not there")
     try_wrong_inputs(program, words.store)
     try_accepted()
+    try_scrolls()
     try_pages()
     if program:
         with tempfile.TemporaryDirectory() as made:

@@ -23,6 +23,7 @@ static pid_t start(const char *program, FILE **in, FILE **out)
         dup2(answers[1], 1);
         close(lines[0]), close(lines[1]), close(answers[0]), close(answers[1]);
         execlp(program, program, "serve", "1", (char *)0);
+        perror(program);
         _exit(127);
     }
     close(lines[0]), close(answers[1]);
