@@ -5,7 +5,8 @@ usage: tools/believed.py [--words] [--of CRATE/FILE:FUNCTION] [--word WORD | --t
 
 It begins with the names in the `ensures` clauses of the function (player_run/program.rt:run if none is named) and
 follows each to its definition, by the `ghost use` lines of the source and the `use` lines of the specs, and so on
-through the names in those definitions. It prints each file of specs/ with the lines of it that count, and the whole
+through the names in those definitions. The records of which the fields are the clauses of `run` are followed, but not
+counted: their lines are clauses. It prints each file of specs/ with the lines of it that count, and the whole
 in lines and in pages of 50 lines; with --words each word too. With --word step (play, gen, demo, film, shot, serve,
 frames, check) it leaves out the cases of the program's other words; --table writes a row for each of them.
 
@@ -29,9 +30,6 @@ PAGE, MOST_BY_HAND = 50, 300
 # The call whose contract is the theorem.
 RUN = "player_run/program.rt:run"
 
-# What a clause says `OnServe`: of the words `serve N` alone.
-OF_SESSIONS = re.compile(r"(\{ OnServe \(.*?\)) \(λ.*\}")
-
 # README's table of lines: its words and their numbers.
 TOLD_LINES = re.compile(r"^(\| `step` \|.*)\n\|[-|]+\n(\|.*)$", re.M)
 
@@ -43,8 +41,6 @@ def lines_of(items):
 def world_of(word, text, names, short):
     """The definitions that these clauses rest on; for one word of the program where it is named."""
     world = World(word)
-    if word not in (None, "Serve"):
-        text = OF_SESSIONS.sub(r"\1 }", text)
     world.names_in(text, names, short, {})
     return world
 

@@ -8,6 +8,9 @@ from crate_list import CRATES
 
 # The words of the program, as cases of the type `Use` name them.
 WORDS = ("Step", "Play", "Gen", "Demo", "Film", "Shot", "Serve", "Frames", "Check")
+# The file of specs/ whose records are lists of clauses: they are cited in place of the clauses, and no more counted
+# than these.
+CLAUSES = ("player_run", "Ran")
 
 USE = re.compile(r"^(?:ghost )?(?:pub )?use Rattle\.(\w+)\.(\w+)\.([\w.]+?)(?:\.\{([^}]*)\}| as (\w+))?;?$")
 HEAD = re.compile(r"^(?:(?:abbrev|unfoldable|unfolding|irreducible|strict|pub|priv)\s+)*(?:(record|data)\s+)?(?:pub\s+)?([^\s:(){}]+)\s*(?=[:(\s{])")
@@ -174,6 +177,8 @@ class World:
         module = self.modules[item.crate, item.module]
         text = self.cases_of(item, module)
         left_out = item.text.count("\n") - text.count("\n")
+        if (item.crate, item.module) == CLAUSES and item.text.startswith("pub record "):
+            left_out = item.last - item.first
         self.found[item.crate, item.module, item.name] = item._replace(last=item.last - left_out)
         text = re.sub(r"--.*", "", text)
         self.names_in(text, module.names, module.short, module.items)
