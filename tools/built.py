@@ -47,9 +47,9 @@ def file_sum(path):
     return hashlib.sha256(path.read_bytes()).hexdigest()
 
 
-def write_note(program, text):
-    """Notes the text that a program was built of."""
-    note_of(program).write_text(f"{text} {file_sum(program)}\n")
+def write_note(program, text, built=None):
+    """Notes the text that a program was built of, or the one that is about to be copied there was."""
+    note_of(program).write_text(f"{text} {file_sum(built or program)}\n")
 
 
 def is_foreign(program):
@@ -60,7 +60,7 @@ def is_foreign(program):
 def put(built, program, text):
     """Copies a program that was built of this text, its note first: no copy that breaks off looks foreign."""
     program.parent.mkdir(exist_ok=True)
-    note_of(program).write_text(f"{text} {file_sum(built)}\n")
+    write_note(program, text, built)
     shutil.copy(built, program)
 
 

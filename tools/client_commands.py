@@ -13,6 +13,8 @@ WIDTH = 118
 NO_BREAK = "\N{NO-BREAK SPACE}"
 # The numbers for C of the commands that put a bitmap. Their other numbers put a rect of one colour.
 BITMAPS = {"insert_item": 20, "replace_item": 21}
+# The parameters of C for the forms that are no numbers of a command; a field of such a form is its last.
+PAINTS = {"colour": ["uint32_t rgba"], "pixels": ["const uint8_t *rgba"]}
 # What the header says of a function besides.
 REMARKS = {
     "add_effect": "Its layers are drawn as a group, faded to `opacity` of 255.",
@@ -58,22 +60,17 @@ def remark(text, first="/* ", later=" * ", last=" */"):
 
 def of_c(call):
     name, number, text, fields = call
-    numbers, parts, last = [], ["cc *page"], "0"
+    numbers = []
     for field, form in fields:
-        if form == "colour":
-            last = "rgba"
-        elif form == "rect":
-            numbers += ["x", "y", "w", "h"]
-        elif form != "pixels":
-            numbers.append(field)
-    parts += [f"int32_t {it}" for it in numbers]
-    parts += ["uint32_t rgba"] if last == "rgba" else ["const uint8_t *rgba"] if fields[-1][1] == "pixels" else []
-    parts.append("cc_fault *fault")
+        if form not in PAINTS:
+            numbers += ["x", "y", "w", "h"] if form == "rect" else [field]
+    paint = fields[-1][1]
+    parts = ["cc *page", *(f"int32_t {it}" for it in numbers), *PAINTS.get(paint, []), "cc_fault *fault"]
     body = f"  const int32_t f[] = {{{', '.join(numbers)}}};\n"
-    if fields[-1][1] == "pixels":
+    if paint == "pixels":
         body += f"  return cc_bitmap_(page, {number}, f, rgba, fault);\n"
     else:
-        body += f"  return cc_edit(page, {number}, f, {len(numbers)}, {last}, fault);\n"
+        body += f"  return cc_edit(page, {number}, f, {len(numbers)}, {'rgba' if paint == 'colour' else '0'}, fault);\n"
     head = wrapped(f"static inline uint32_t cc_{name}(", parts, ") {")
     return remark(" ".join(filter(None, [text, REMARKS.get(name)]))) + head + "\n" + body + "}\n"
 
@@ -83,7 +80,7 @@ def of_python(call):
     optional = DEFAULTS if name.startswith("add_") else {}
     given = [field for field, _ in fields if field not in optional]
     given += [f"{field}={optional[field]}" for field, _ in fields if field in optional]
-    passed = [f"*{field}" if form == "rect" else field for field, form in fields if form not in ("colour", "pixels")]
+    passed = [f"*{field}" if form == "rect" else field for field, form in fields if form not in PAINTS]
     passed += {"colour": ["colour=colour"], "pixels": ["pixels=bytes(pixels)"]}.get(fields[-1][1], [])
     return f"    def {name}(self, {', '.join(given)}):\n        self._edit({', '.join([str(number)] + passed)})\n"
 
@@ -143,10 +140,10 @@ def between(path, made):
     return text[:found.start(1)] + made + text[found.end(1):]
 
 
-def texts_made(commands):
-    from command_fields import SECOND_VERSION
+def texts_made(commands, second_version):
+    """Each file that has a part made from the commands, of which these names are of version 2 alone, and its text."""
     calls = calls_of(commands)
-    table = "| `op` | Fields |\n|---|---|\n" + "".join(row_of(it, it.name in SECOND_VERSION) for it in commands)
+    table = "| `op` | Fields |\n|---|---|\n" + "".join(row_of(it, it.name in second_version) for it in commands)
     parts = [("docs/FORMAT.md", table), ("include/cc.h", "\n".join(map(of_c, calls))),
              ("clients/python/cc.py", "\n".join(map(of_python, calls))),
              ("clients/rust/src/lib.rs", "\n".join(map(of_rust, calls)))]

@@ -14,6 +14,8 @@ import pathlib
 import re
 import sys
 
+import client_commands
+
 ROOT = pathlib.Path(__file__).resolve().parent.parent
 SOURCE = ROOT / "crates" / "page_layers" / "src" / "command.rt"
 SCHEMA = ROOT / "docs" / "script.schema.json"
@@ -98,10 +100,9 @@ def made(schema, commands):
 
 def texts_made():
     """Each file that has a part made from the list, and its text with that part made."""
-    import client_commands
     commands = read_commands()
     schema = json.dumps(made(json.loads(SCHEMA.read_text()), commands), indent=2) + "\n"
-    return [(SCHEMA, schema)] + client_commands.texts_made(commands)
+    return [(SCHEMA, schema)] + client_commands.texts_made(commands, SECOND_VERSION)
 
 
 def is_all_made():

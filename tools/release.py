@@ -34,7 +34,6 @@ SHARE = "share/cc_compositor"
 SHARED = ["README.md", "CHANGELOG.md", "docs", "examples", "clients", "crates/page_layers/src/command.rt"]
 TOOLS = ["explain", "recording", "page", "judge"]
 ARCHITECTURES = {"x86_64": "amd64"}
-TRIPLETS = {"x86_64": "x86_64-linux-gnu"}
 DESCRIPTION = """page compositor whose frames are proved
  The core of a web page compositor as a program and as a library for C: layers
  with rects and bitmaps, clips, groups with opacity, nested scrollers, damage.
@@ -86,7 +85,15 @@ class Release:
 
     def name(self):
         """The name of the archive."""
-        return f"cc-{self.version}-linux-{self.processor}" + ("" if self.is_proved else "-unproved")
+        return f"cc-{self.version}-linux-{self.processor}" + self.mark("-")
+
+    def mark(self, sign):
+        """What a name says after its version, with this sign before it, if not all is proved."""
+        return "" if self.is_proved else sign + "unproved"
+
+    def debian_version(self):
+        """The version of the package."""
+        return self.version + self.mark("~")
 
     def about(self):
         """What the file BUILD tells."""
@@ -170,8 +177,7 @@ def copyright_text():
 def control(release, root):
     """The control file of the package."""
     size = sum(it.lstat().st_size for it in root.rglob("*") if it.is_file())
-    version = release.version + ("" if release.is_proved else "~unproved")
-    return (f"Package: cc-compositor\nVersion: {version}\nArchitecture: {ARCHITECTURES[release.processor]}\n"
+    return (f"Package: cc-compositor\nVersion: {release.debian_version()}\nArchitecture: {ARCHITECTURES[release.processor]}\n"
             "Maintainer: cc maintainers <root@localhost>\n"
             f"Installed-Size: {size // 1024 + 1}\nDepends: libc6 (>= 2.{release.libc})\nSuggests: python3, pkgconf\n"
             f"Section: libdevel\nPriority: optional\nDescription: {DESCRIPTION}\n")
@@ -192,7 +198,7 @@ def deb(release):
         stop(f"no package is made for {release.processor}")
     with tempfile.TemporaryDirectory() as room:
         root = pathlib.Path(room) / "root"
-        stage(release, root, "/usr", "lib/" + TRIPLETS[release.processor])
+        stage(release, root, "/usr", f"lib/{release.processor}-linux-gnu")
         for it in ("cc.py", "cc_serve.py"):
             put(root, f"usr/lib/python3/dist-packages/{it}", (ROOT / "clients" / "python" / it).read_bytes())
         packed_manuals(root)
@@ -206,7 +212,7 @@ def deb(release):
         for it in root.rglob("*"):
             if it.is_dir():
                 it.chmod(0o755)
-        path = OUT / f"cc-compositor_{release.version}{'' if release.is_proved else '~unproved'}_{ARCHITECTURES[release.processor]}.deb"
+        path = OUT / f"cc-compositor_{release.debian_version()}_{ARCHITECTURES[release.processor]}.deb"
         run("dpkg-deb", "--build", "--root-owner-group", root, path, env=dict(os.environ, SOURCE_DATE_EPOCH=str(release.seconds)))
     return path
 
@@ -232,8 +238,7 @@ def main():
     shutil.rmtree(OUT, ignore_errors=True)
     OUT.mkdir(parents=True)
     made = [archive(release)]
-    version = release.version + ("" if release.is_proved else "+unproved")
-    made.append(wheel.write(OUT, version, release.libc, release.processor, PLAYER, release.library, release.seconds))
+    made.append(wheel.write(OUT, release.version + release.mark("+"), release.libc, release.processor, PLAYER, release.library, release.seconds))
     made += filter(None, [crate(release), deb(release) if words.deb else None])
     (OUT / "SHA256SUMS").write_text("".join(f"{file_sum(it)}  {it.name}\n" for it in sorted(made)))
     for it in sorted(made):
