@@ -8,3 +8,4 @@ pub mod Fronts
 pub mod Falls
 pub mod Following
 pub mod Parts
+pub mod Courses

@@ -7,7 +7,10 @@ mod frames;
 mod laws;
 mod pairs;
 mod play;
+mod receiver;
+mod whole;
 
 pub use compositor::{Compositor, EnterFault};
 pub use laws::{lockstep_exists, pairs_make_fewer, required_tiles_start, rounds_are_few};
-pub use play::{end_run, play_input, play_script};
+pub use receiver::Receiver;
+pub use whole::{play_all, play_end, play_some};

@@ -1,10 +1,9 @@
-//! The whole run is played.
+//! What an input brings is played, and the end of a run.
 
-ghost use Rattle.std.specs.Prelude.{◌≡◌, ◌||◌, [], reverse, OnOk, OnErr};
-ghost use Rattle.model_history.specs.Accepted.{IsAccepted};
+ghost use Rattle.std.specs.Prelude.{◌≡◌, ◌||◌, OnOk, OnErr};
 ghost use Rattle.model_history.specs.Frames.{is_left};
-ghost use Rattle.model_history.specs.Lockstep.{IsLockstep, waits};
-ghost use Rattle.model_lockstep.specs.Walks.{CanFollow, Follows, IsOnWay, BeginsLockstep, rounds_to_await, awaited, round_where, settled_rest, settled, input_played, inputs_from, last_rounds, run_end};
+ghost use Rattle.model_history.specs.Lockstep.{waits};
+ghost use Rattle.model_lockstep.specs.Walks.{CanFollow, Follows, IsOnWay, rounds_to_await, awaited, round_where, settled_rest, settled, input_played, last_rounds, run_end};
 
 use crate::compositor::Compositor;
 use crate::draws::draw_frame;
@@ -78,7 +77,7 @@ fn settle<R: Threads + Sync, C: Compositor>(rt: &R, core: &mut C) -> Result<(), 
 
 /// Plays what an input brings, which the run is to be able to follow. On an error memory was refused, and
 /// what was played since is a prefix of that.
-pub fn play_input<R: Threads + Sync, C: Compositor>(
+pub(crate) fn play_input<R: Threads + Sync, C: Compositor>(
     rt: &R,
     core: &mut C,
     input: &Input,
@@ -94,24 +93,6 @@ pub fn play_input<R: Threads + Sync, C: Compositor>(
         Input::Await { .. } => wait_for_frame(rt, core),
         Input::Settle => settle(rt, core),
     }
-}
-
-/// Plays what these inputs bring, one after another.
-fn play_inputs<R: Threads + Sync, C: Compositor>(
-    rt: &R,
-    core: &mut C,
-    inputs: &[Input],
-) -> Result<(), AllocError>
-    requires can { CanFollow (inputs_from inputs.now) (C.run core.old) }
-    ensures ok { OnOk result (Follows (inputs_from inputs.now) (C.run core.old) (C.run core.new)) }
-    ensures err { OnErr result (IsOnWay (inputs_from inputs.now) (C.run core.old) (C.run core.new)) }
-{
-    let mut rest = inputs;
-    while let Some((input, after)) = rest.split_first() {
-        play_input(rt, core, input)?;
-        rest = after;
-    }
-    Ok(())
 }
 
 /// Whether a main frame is left or a commit is pending.
@@ -140,31 +121,14 @@ fn rounds_until_end<R: Threads + Sync, C: Compositor>(
 
 /// Plays the rounds that are left after all inputs, and ends the run. On an error memory was refused, and
 /// what was played since is a prefix of that.
-pub fn end_run<R: Threads + Sync, C: Compositor>(rt: &R, core: &mut C) -> Result<(), AllocError>
+pub(crate) fn end_run<R: Threads + Sync, C: Compositor>(
+    rt: &R,
+    core: &mut C,
+) -> Result<(), AllocError>
     requires can { CanFollow run_end (C.run core.old) }
     ensures ok { OnOk result (Follows run_end (C.run core.old) (C.run core.new)) }
     ensures err { OnErr result (IsOnWay run_end (C.run core.old) (C.run core.new)) }
 {
     rounds_until_end(rt, core)?;
     enter(core, Kind::End, 0)
-}
-
-/// Plays an accepted script, of which nothing was played yet, to its end.
-///
-/// What is played then is the script's lockstep history. On an error memory was refused, and what was
-/// played is a prefix of that history.
-pub fn play_script<R: Threads + Sync, C: Compositor>(
-    rt: &R,
-    core: &mut C,
-    inputs: &[Input],
-) -> Result<(), AllocError>
-    requires script { IsAccepted (C.run core.old).script }
-    requires start { (C.run core.old).past ≡ [] }
-    requires inputs { inputs.now ≡ (C.run core.old).script.inputs }
-    ensures script { (C.run core.new).script ≡ (C.run core.old).script }
-    ensures ok { OnOk result (IsLockstep (C.run core.old).script (reverse (C.run core.new).past)) }
-    ensures err { OnErr result (BeginsLockstep (C.run core.old).script (reverse (C.run core.new).past)) }
-{
-    play_inputs(rt, core, inputs)?;
-    end_run(rt, core)
 }

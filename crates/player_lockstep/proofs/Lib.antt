@@ -5,3 +5,4 @@ pub mod RecordedRuns
 pub mod UsedInputs
 mod FilmedRuns
 mod ShotRuns
+pub mod Received

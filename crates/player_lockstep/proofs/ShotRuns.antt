@@ -1,29 +1,24 @@
 -- Runs of which the picture of the last draw is made a file.
 use Rattle.std.proofs.Common.{◌≡◌, ℕ, ◌+◌, ◌-◌, List, [], ◌∷◌, ◌++◌, length, refl, ap, sym, ◌∙◌, subst, arith, length-append}
-use Rattle.std.specs.Prelude.{reverse, Option, Some, None}
-use Rattle.std.proofs.lemmas.List.{length-reverse, reverse-reverse}
+use Rattle.std.specs.Prelude.{Option, Some, None}
+use Rattle.std.proofs.lemmas.List.{length-reverse}
 use Rattle.viz_scene.specs.Views.{SceneView}
 use Rattle.model_history.specs.declared.event.Event.{Event}
 use Rattle.model_history.specs.declared.event.Event.TheVariants as event
 use Rattle.model_history.specs.declared.history.Entry.{Entry}
-use Rattle.model_history.specs.declared.input.Input.{Input}
 use Rattle.model_history.specs.Legal.{Legal, Next}
 use Rattle.model_history.specs.Scripts.{ScriptModel}
-use Rattle.model_lockstep.specs.Walks.{Way, Follows, inputs_from, run_end}
-use Rattle.model_lockstep.proofs.Fronts.{Grows}
-use Rattle.model_lockstep.proofs.Following.{joined}
 use Rattle.model_lockstep.proofs.Parts as parts
 use Rattle.impl_log.specs.Runs.{Run, past}
-use Rattle.proxy_single_thread.specs.Singles.{SingleModel, AddsScene, AreScenes, walk_of}
+use Rattle.proxy_single_thread.specs.Singles.{SingleModel, AddsScene, AreScenes}
 use Rattle.player_lockstep.specs.Films.{image_or, last_image, IsLastImage}
 use Rattle.recording_writer.specs.Files.{IsFileOf}
 use Rattle.player_lockstep.specs.Shots.{IsShot}
-use Rattle.player_lockstep.specs.inner.Filming.{standing_at}
 use Rattle.thread_pieces.specs.Scenes.{scene_image}
-use Rattle.player_lockstep.specs.inner.Shooting.{HasWatched, newest_image, shown}
+use Rattle.player_lockstep.specs.inner.Shooting.{newest_image}
 use Rattle.player_lockstep.specs.inner.Ways.{IsFresh}
 use Rattle.player_lockstep.proofs.DrawnScenes.{draw_image}
-use Rattle.player_lockstep.proofs.FilmedRuns.{fresh_past, fresh_script}
+use Rattle.player_lockstep.proofs.FilmedRuns.{fresh_past}
 
 -- ---- scenes
 
@@ -63,36 +58,10 @@ pub newest_none : (scenes : List SceneView) (before : Option (List ℕ)) → len
 newest_none [] before none = refl
 newest_none (scene ∷ scenes) before none = absurd (omega (arith, none))
 
--- ---- ways
-
--- a way was followed, and then its newest scene was kept
-pub way_watched : (P : Way) (old mid new : SingleModel) (last now : Option SceneView) → ((s : ScriptModel) → Grows (P s)) → Follows P (walk_of old) (walk_of mid) → new.run ≡ mid.run → new.written ≡ length mid.run.entries
-    → old.written ≡ length old.run.entries → shown last ≡ last_image old.run.script (past old.run)
-    → ((newer h : List Entry) → past mid.run ≡ newer ++ h → mid.written ≡ length h → shown last ≡ last_image mid.run.script h → shown now ≡ last_image mid.run.script (newer ++ h))
-    → HasWatched P old.run new now
-way_watched P old mid new last now grows follows same all was image keeps =
-    let h : List Entry = past old.run in
-    let more = grows old.run.script h (past mid.run) follows.way in
-    let here : shown last ≡ last_image mid.run.script h = image ∙ ap (λ (s : ScriptModel). last_image s h) (sym follows.same) in
-    let seen = keeps more.0 h more.1 (follows.written ∙ was ∙ sym (length-reverse old.run.entries)) here in
-    subst (λ (z : Run). HasWatched P old.run (record { run = z; written = new.written }) now) (sym same)
-    (record { follows = record { same = follows.same; written = refl; way = follows.way }; all = all; image = seen ∙ ap (λ (z : List Entry). last_image mid.run.script z) (sym more.1) })
-
 -- ---- whole runs
 
 pub fresh_image : (s : ScriptModel) (m : SingleModel) → IsFresh s m → None ≡ last_image m.run.script (past m.run)
 fresh_image s m fresh = ap (λ (h : List Entry). last_image m.run.script h) (sym (fresh_past s m fresh))
-
--- what was played is the lockstep history, and its last image was kept
-pub last_watched : (s : ScriptModel) (inputs : List Input) (m mid new : SingleModel) (between last : Option SceneView) → IsFresh s m → inputs ≡ s.inputs → HasWatched (inputs_from inputs) m.run mid between → HasWatched run_end mid.run new last
-    → IsLastImage s (shown last)
-last_watched s inputs m mid new between last fresh all first second =
-    let own : inputs ≡ m.run.script.inputs = all ∙ ap (λ (z : ScriptModel). z.inputs) (sym (fresh_script s m fresh)) in
-    let lockstep = parts.is_lockstep (standing_at m.run) inputs (standing_at new.run) (fresh_past s m fresh) own (joined (inputs_from inputs) run_end _ _ _ first.follows second.follows) in
-    let script : new.run.script ≡ m.run.script = second.follows.same ∙ first.follows.same in
-    let image : shown last ≡ last_image m.run.script (reverse (reverse (past new.run))) =
-    second.image ∙ ap (λ (z : ScriptModel). last_image z (past new.run)) script ∙ ap (λ (h : List Entry). last_image m.run.script h) (sym (reverse-reverse (past new.run))) in
-    subst (λ (z : ScriptModel). IsLastImage z (shown last)) (fresh_script s m fresh) (reverse (past new.run), lockstep, image)
 
 -- the file of the last image, or none
 pub shot_some : (s : ScriptModel) (scene : SceneView) (file : List ℕ) → IsLastImage s (Some (scene_image scene)) → IsFileOf (scene_image scene) file → IsShot s (Some file)

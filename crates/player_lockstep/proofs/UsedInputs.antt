@@ -1,7 +1,6 @@
 -- What an input brings uses that input alone: so all of it is kept until it is written.
 use Rattle.std.proofs.Common.{◌≡◌, ℕ, zero, suc, ◌+◌, ◌≤◌, Bool, true, false, not, ◌||◌, List, ◌++◌, length, Option, Some, None, is_some, refl, ap, sym, ◌∙◌, subst, arith}
 use Rattle.std.specs.Prelude.{MatchBool}
-use Rattle.std.proofs.lemmas.List.{length-reverse}
 use Rattle.model_states.specs.declared.kind.Kind.{Kind}
 use Rattle.model_states.specs.declared.kind.Kind.TheVariants as kind
 use Rattle.model_history.specs.declared.event.Event.{Event}
@@ -16,8 +15,9 @@ use Rattle.model_history.specs.Frames.{is_left, active}
 use Rattle.model_history.specs.Lockstep.{Step, Enters, Stays, Then, Where, Times, While, AtMost, waits, may_send, has_first, is_possible, Pair, MainPart, ActivateNow, PlainFrame, Round, DrawFrame, InputStep}
 use Rattle.model_history.proofs.DueRows.{due_row}
 use Rattle.model_history.proofs.LockstepWords.{can_due}
-use Rattle.model_lockstep.specs.Walks.{Way, Follows, run_end}
-use Rattle.model_lockstep.proofs.Fronts.{Grows}
+use Rattle.model_lockstep.specs.Walks.{WalkState, Follows, run_end}
+use Rattle.model_lockstep.specs.Receivers.{Since, brought}
+use Rattle.model_lockstep.proofs.Courses.{newer_since, count_since}
 use Rattle.impl_log.specs.Kept.{forgettable}
 use Rattle.impl_log.specs.Runs.{past}
 use Rattle.impl_log.proofs.Forgetting.{one_more_kept}
@@ -140,13 +140,18 @@ input_uses input.Settle s =
 pub end_uses : (s : ScriptModel) → UsesAtMost 1 (run_end s)
 end_uses s = none_then 1 (While (λ h. is_left s h || waits h) (Round s)) (Enters s kind.End 0) (loop (λ h. is_left s h || waits h) (Round s) (round s)) (one s kind.End 0)
 
--- ---- a way that was followed from where all was written
+-- ---- what was entered since all was taken
 
-pub kept_after : (P : Way) (old mid : SingleModel) → ((s : ScriptModel) → Grows (P s)) → ((s : ScriptModel) → UsesAtMost 1 (P s)) → old.written ≡ length old.run.entries → Follows P (walk_of old) (walk_of mid) → forgettable (past mid.run) ≤ mid.written
-kept_after P old mid grows few all follows =
-    let h : List Entry = past old.run in
-    let more = grows old.run.script h (past mid.run) follows.way in
-    let used = few old.run.script h (past mid.run) follows.way in
+-- it uses one input at most, so all of it is kept
+pub kept_since : (old : WalkState) (now : SingleModel) → Since old (walk_of now) → forgettable (past now.run) ≤ now.written
+kept_since old now since =
+    let h : List Entry = old.past in
+    let more = newer_since old (walk_of now) since in
+    let used : counted uses (past now.run) ≤ 1 + counted uses h = by_input since.input since.follows in
     let kept : forgettable (more.0 ++ h) ≤ length h = one_more_kept more.0 h (subst (λ (z : List Entry). counted uses z ≤ 1 + counted uses h) more.1 used) in
-    let long : length h ≡ mid.written = length-reverse old.run.entries ∙ (sym all ∙ sym follows.written) in
-    subst (λ (z : List Entry). forgettable z ≤ mid.written) (sym more.1) (subst (λ (n : ℕ). forgettable (more.0 ++ h) ≤ n) long kept)
+    let long : length h ≡ now.written = sym (count_since old (walk_of now) since) in
+    subst (λ (z : List Entry). forgettable z ≤ now.written) (sym more.1) (subst (λ (n : ℕ). forgettable (more.0 ++ h) ≤ n) long kept)
+  where
+    by_input : (i : Option Input) → Follows (brought i) old (walk_of now) → counted uses (past now.run) ≤ 1 + counted uses old.past
+    by_input (Some i) follows = input_uses i old.script old.past (past now.run) follows.way
+    by_input None follows = end_uses old.script old.past (past now.run) follows.way

@@ -46,21 +46,22 @@ ghost use Rattle.byte_io.specs.Pieces.{GainsPrefix, PutsAll, WriteCause};
 ghost use Rattle.model_history.specs.declared.history.Entry.{Entry};
 ghost use Rattle.model_history.specs.Lockstep.{IsLockstep};
 ghost use Rattle.model_history.specs.Recordings.{header, pieces};
-ghost use Rattle.model_lockstep.specs.Walks.{CanFollow, input_played, run_end};
+ghost use Rattle.model_lockstep.specs.Receivers.{OnCourse, StaysOn};
 ghost use Rattle.impl_log.specs.Kept.{forgettable};
 ghost use Rattle.impl_log.specs.Runs.{past};
 ghost use Rattle.proxy_single_thread.specs.Singles.{walk_of};
 ghost use Rattle.thread_pieces.specs.Shots.{all_shown};
+ghost use Rattle.script_json.specs.Recordings.{recording};
 ghost use Rattle.script_json.specs.ScriptValue.{parts_data};
 ghost use Rattle.player_lockstep.specs.Recordings.{Records};
 ghost use Rattle.recording_writer.specs.Batches.{held_of};
-ghost use Rattle.player_lockstep.specs.inner.Batches.{HasGathered, KeepsUp, OnCourse, StaysOn, StopsEarly, joint_answer, run_text};
+ghost use Rattle.player_lockstep.specs.inner.Batches.{Completes, KeepsUp, StopsEarly, joint_answer, run_text};
 ghost use Rattle.recording_writer.specs.Parts.{Half};
 ghost use Rattle.player_lockstep.specs.inner.Ways.{IsFresh};
 
 use byte_io::{PutFault, Sink};
 use model_history::{Input, Script};
-use model_lockstep::{end_run, play_input};
+use model_lockstep::{Receiver, play_end, play_some};
 use proxy_single_thread::SingleThread;
 use recording_writer::{Batch, ImagePainter, put_shots};
 use std::alloc::{AllocError, Global};
@@ -81,44 +82,71 @@ fn gather_news(single: &mut SingleThread, batch: &mut Batch) -> Result<(), Alloc
     batch.push_entries(single.core(), from, scenes)
 }
 
-// Plays what an input brings, and adds it.
-fn gather_input<R: Threads + Sync>(
-    rt: &R,
-    single: &mut SingleThread,
-    input: &Input,
-    batch: &mut Batch,
-) -> Result<(), AllocError>
-    requires can { CanFollow (input_played input.now) (walk_of single.old) }
-    requires all { single.old.written ≡ length single.old.run.entries }
-    ensures { OnOk result (HasGathered (input_played input.now) single.old single.new (held_of batch.old) (held_of batch.new)) }
-{
-    play_input(rt, single, input)?;
-    gather_news(single, batch)
+// A batch that gathers what was entered until it has as much as the given number of painters take at a time.
+#[derive(Drop)]
+struct Gathering {
+    batch: Batch,
+    painters: usize,
 }
 
-// Plays inputs until the batch has as much as the given number of painters take at a time, and adds what they bring.
-// The inputs that are left.
+impl Receiver<SingleThread, ()> for Gathering {
+    ghost use Rattle.std.specs.Prelude.{⊤};
+    ghost use Rattle.recording_writer.specs.Batches.{held_of};
+    ghost use Rattle.player_lockstep.specs.inner.Receivers.{HasGathered, Waited};
+
+    type Fault = AllocError;
+
+    ghost Start = { Waited };
+
+    ghost has = { λ waited s past x _. HasGathered waited s past (held_of x.batch) };
+
+    ghost stopped = { λ _ _ _ _ _ _. ⊤ };
+
+    fn take<R: Threads + Sync>(
+        &mut self,
+        _rt: &R,
+        single: &mut SingleThread,
+        _out: &mut (),
+    ) -> Result<(), AllocError> {
+        gather_news(single, &mut self.batch)
+    }
+
+    fn refused(error: AllocError) -> AllocError {
+        error
+    }
+
+    fn is_full(&self) -> bool {
+        self.batch.is_full(self.painters)
+    }
+}
+
+// Plays inputs until the batch has as much as its painters take at a time, and adds what they bring. The inputs that
+// are left.
 fn gather_inputs<'i, R: Threads + Sync>(
     rt: &R,
     single: &mut SingleThread,
     inputs: &'i [Input],
-    painters: usize,
-    batch: &mut Batch,
+    gathering: &mut Gathering,
 ) -> Result<&'i [Input], AllocError>
-    requires course { OnCourse inputs.now single.old }
-    ensures course { IfOk result (λ left. StaysOn left.now single.old.run single.new) }
-    ensures bytes { OnOk result (KeepsUp single.old.run single.new.run (held_of batch.old) (held_of batch.new)) }
+    requires course { OnCourse inputs.now (walk_of single.old) }
+    ensures course { IfOk result (λ left. StaysOn left.now (walk_of single.old) (walk_of single.new)) }
+    ensures bytes { OnOk result (KeepsUp single.old.run single.new.run (held_of gathering.old.batch) (held_of gathering.new.batch)) }
     ensures fewer { 1 ≤ length inputs.now → IfOk result (λ left. length left.now < length inputs.now) }
 {
-    let mut rest = inputs;
-    while let Some((input, after)) = rest.split_first() {
-        gather_input(rt, single, input, batch)?;
-        rest = after;
-        if batch.is_full(painters) {
-            return Ok(rest);
-        }
-    }
-    Ok(rest)
+    play_some(rt, single, inputs, gathering, &mut ())
+}
+
+// Plays what is left after all inputs, and adds it.
+fn gather_end<R: Threads + Sync>(
+    rt: &R,
+    single: &mut SingleThread,
+    gathering: &mut Gathering,
+) -> Result<(), AllocError>
+    requires course { OnCourse [] (walk_of single.old) }
+    ensures lockstep { OnOk result (IsLockstep single.old.run.script single.new.run.entries) }
+    ensures bytes { OnOk result (Completes (held_of gathering.old.batch) (run_text single.old.run) (held_of gathering.new.batch) (recording single.old.run.script single.new.run.entries)) }
+{
+    play_end(rt, single, gathering, &mut ())
 }
 
 // What playing and putting answered together.
@@ -143,26 +171,25 @@ fn play_beside<'i, R: Threads + Sync, K: Sink>(
     painters: &mut Painters<ImagePainter>,
     single: &mut SingleThread,
     inputs: &'i [Input],
-    batch: &mut Batch,
+    gathering: &mut Gathering,
     shots: Vec<Shot>,
     out: &mut K,
 ) -> (Result<&'i [Input], AllocError>, Result<(), PutFault>)
-    requires course { OnCourse inputs.now single.old }
-    ensures course { IfOk result.0 (λ left. StaysOn left.now single.old.run single.new) }
-    ensures bytes { OnOk result.0 (KeepsUp single.old.run single.new.run (held_of batch.old) (held_of batch.new)) }
+    requires course { OnCourse inputs.now (walk_of single.old) }
+    ensures course { IfOk result.0 (λ left. StaysOn left.now (walk_of single.old) (walk_of single.new)) }
+    ensures bytes { OnOk result.0 (KeepsUp single.old.run single.new.run (held_of gathering.old.batch) (held_of gathering.new.batch)) }
     ensures fewer { 1 ≤ length inputs.now → IfOk result.0 (λ left. length left.now < length inputs.now) }
     ensures put { PutsAll (K.held out.old) (K.held out.new) (all_shown shots.items) result.1 }
     ensures grows { K.faults out.old ≤ K.faults out.new }
     ensures cause { WriteCause (K.faults out.old) (K.faults out.new) result.1 }
 {
-    let most = painters.most();
     let mut waiting = shots;
     join_mut(
         rt,
         &mut || -> Result<&[Input], AllocError>
             requires sync { IsSync R.row }
-            requires course { OnCourse inputs.now single.now }
-        { gather_inputs(rt, single, inputs, most, batch) },
+            requires course { OnCourse inputs.now (walk_of single.now) }
+        { gather_inputs(rt, single, inputs, gathering) },
         &mut || put_shots(rt, alloc, painters, &mut waiting, out),
     )
 }
@@ -174,19 +201,19 @@ fn record_batch<'i, R: Threads + Sync, K: Sink>(
     painters: &mut Painters<ImagePainter>,
     single: &mut SingleThread,
     inputs: &'i [Input],
-    batch: &mut Batch,
+    gathering: &mut Gathering,
     out: &mut K,
 ) -> Result<&'i [Input], PutFault>
-    requires course { OnCourse inputs.now single.old }
-    ensures course { IfOk result (λ left. StaysOn left.now single.old.run single.new) }
-    ensures ok { (start : Option (List ℕ)) → Half start (K.held out.old) (run_text single.old.run) (held_of batch.old) → OnOk result (Half start (K.held out.new) (run_text single.new.run) (held_of batch.new)) }
-    ensures err { (start : Option (List ℕ)) → Half start (K.held out.old) (run_text single.old.run) (held_of batch.old) → OnErr result (GainsPrefix start (K.held out.new) (run_text single.old.run)) }
+    requires course { OnCourse inputs.now (walk_of single.old) }
+    ensures course { IfOk result (λ left. StaysOn left.now (walk_of single.old) (walk_of single.new)) }
+    ensures ok { (start : Option (List ℕ)) → Half start (K.held out.old) (run_text single.old.run) (held_of gathering.old.batch) → OnOk result (Half start (K.held out.new) (run_text single.new.run) (held_of gathering.new.batch)) }
+    ensures err { (start : Option (List ℕ)) → Half start (K.held out.old) (run_text single.old.run) (held_of gathering.old.batch) → OnErr result (GainsPrefix start (K.held out.new) (run_text single.old.run)) }
     ensures fewer { 1 ≤ length inputs.now → IfOk result (λ left. length left.now < length inputs.now) }
     ensures grows { K.faults out.old ≤ K.faults out.new }
     ensures cause { WriteCause (K.faults out.old) (K.faults out.new) result }
 {
-    let shots = batch.take_shots();
-    let (played, put) = play_beside(rt, alloc, painters, single, inputs, batch, shots, out);
+    let shots = gathering.batch.take_shots();
+    let (played, put) = play_beside(rt, alloc, painters, single, inputs, gathering, shots, out);
     both_answer(played, put)
 }
 
@@ -197,19 +224,19 @@ fn record_inputs<R: Threads + Sync, K: Sink>(
     painters: &mut Painters<ImagePainter>,
     single: &mut SingleThread,
     inputs: &[Input],
-    batch: &mut Batch,
+    gathering: &mut Gathering,
     out: &mut K,
 ) -> Result<(), PutFault>
-    requires course { OnCourse inputs.now single.old }
-    ensures course { OnOk result (StaysOn [] single.old.run single.new) }
-    ensures ok { (start : Option (List ℕ)) → Half start (K.held out.old) (run_text single.old.run) (held_of batch.old) → OnOk result (Half start (K.held out.new) (run_text single.new.run) (held_of batch.new)) }
-    ensures err { (start : Option (List ℕ)) → Half start (K.held out.old) (run_text single.old.run) (held_of batch.old) → OnErr result (StopsEarly single.old.run.script start (K.held out.new)) }
+    requires course { OnCourse inputs.now (walk_of single.old) }
+    ensures course { OnOk result (StaysOn [] (walk_of single.old) (walk_of single.new)) }
+    ensures ok { (start : Option (List ℕ)) → Half start (K.held out.old) (run_text single.old.run) (held_of gathering.old.batch) → OnOk result (Half start (K.held out.new) (run_text single.new.run) (held_of gathering.new.batch)) }
+    ensures err { (start : Option (List ℕ)) → Half start (K.held out.old) (run_text single.old.run) (held_of gathering.old.batch) → OnErr result (StopsEarly single.old.run.script start (K.held out.new)) }
     ensures grows { K.faults out.old ≤ K.faults out.new }
     ensures cause { WriteCause (K.faults out.old) (K.faults out.new) result }
 {
     let mut rest = inputs;
     while !rest.is_empty() {
-        match record_batch(rt, alloc, painters, single, rest, batch, out) {
+        match record_batch(rt, alloc, painters, single, rest, gathering, out) {
             Ok(left) => rest = left,
             Err(stop) => return Err(stop),
         }
@@ -217,36 +244,22 @@ fn record_inputs<R: Threads + Sync, K: Sink>(
     Ok(())
 }
 
-// Plays what is left after all inputs, and adds it.
-fn gather_end<R: Threads + Sync>(
-    rt: &R,
-    single: &mut SingleThread,
-    batch: &mut Batch,
-) -> Result<(), AllocError>
-    requires can { CanFollow run_end (walk_of single.old) }
-    requires all { single.old.written ≡ length single.old.run.entries }
-    ensures { OnOk result (HasGathered run_end single.old single.new (held_of batch.old) (held_of batch.new)) }
-{
-    end_run(rt, single)?;
-    gather_news(single, batch)
-}
-
 // Plays what is left after all inputs, and puts all that waits.
 fn record_end<R: Threads + Sync, K: Sink>(
     rt: &R,
     painters: &mut Painters<ImagePainter>,
     single: &mut SingleThread,
-    batch: &mut Batch,
+    gathering: &mut Gathering,
     out: &mut K,
 ) -> Result<(), PutFault>
-    requires course { OnCourse [] single.old }
-    ensures bytes { (start : Option (List ℕ)) → Half start (K.held out.old) (run_text single.old.run) (held_of batch.old) → Records single.old.run.script start (K.held out.new) result }
+    requires course { OnCourse [] (walk_of single.old) }
+    ensures bytes { (start : Option (List ℕ)) → Half start (K.held out.old) (run_text single.old.run) (held_of gathering.old.batch) → Records single.old.run.script start (K.held out.new) result }
     ensures history { IfOk result (λ whole. IsLockstep single.old.run.script single.new.run.entries) }
     ensures grows { K.faults out.old ≤ K.faults out.new }
     ensures cause { WriteCause (K.faults out.old) (K.faults out.new) result }
 {
-    match gather_end(rt, single, batch) {
-        Ok(()) => batch.put(rt, painters, out),
+    match gather_end(rt, single, gathering) {
+        Ok(()) => gathering.batch.put(rt, painters, out),
         Err(refused) => Err(PutFault::Memory(refused)),
     }
 }
@@ -258,19 +271,19 @@ fn record_run<R: Threads + Sync, K: Sink>(
     painters: &mut Painters<ImagePainter>,
     single: &mut SingleThread,
     inputs: &[Input],
-    batch: &mut Batch,
+    gathering: &mut Gathering,
     out: &mut K,
 ) -> Result<(), PutFault>
-    requires course { OnCourse inputs.now single.old }
-    ensures bytes { (start : Option (List ℕ)) → Half start (K.held out.old) (run_text single.old.run) (held_of batch.old) → Records single.old.run.script start (K.held out.new) result }
+    requires course { OnCourse inputs.now (walk_of single.old) }
+    ensures bytes { (start : Option (List ℕ)) → Half start (K.held out.old) (run_text single.old.run) (held_of gathering.old.batch) → Records single.old.run.script start (K.held out.new) result }
     ensures history { IfOk result (λ whole. IsLockstep single.old.run.script single.new.run.entries) }
     ensures grows { K.faults out.old ≤ K.faults out.new }
     ensures cause { WriteCause (K.faults out.old) (K.faults out.new) result }
 {
-    if let Err(stop) = record_inputs(rt, alloc, painters, single, inputs, batch, out) {
+    if let Err(stop) = record_inputs(rt, alloc, painters, single, inputs, gathering, out) {
         return Err(stop);
     }
-    record_end(rt, painters, single, batch, out)
+    record_end(rt, painters, single, gathering, out)
 }
 
 /// Plays and writes the whole run of a script after the lines before the events, of which these were not put yet.
@@ -292,14 +305,17 @@ pub(crate) fn record_batches<R: Threads + Sync, K: Sink>(
 {
     script.is_accepted();
     let mut painters: Painters<ImagePainter> = Painters::new(alloc, most);
-    let mut batch = Batch::new(alloc, lines);
+    let mut gathering = Gathering {
+        batch: Batch::new(alloc, lines),
+        painters: painters.most(),
+    };
     record_run(
         rt,
         alloc,
         &mut painters,
         single,
         script.inputs(),
-        &mut batch,
+        &mut gathering,
         out,
     )
 }

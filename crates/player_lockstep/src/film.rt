@@ -1,19 +1,16 @@
 //! Scripts, played in lockstep, of which the images alone are written.
 
-ghost use Rattle.std.specs.Prelude.{◌≡◌, ℕ, ◌≤◌, ◌++◌, List, Option, length, IfOk};
-ghost use Rattle.std.specs.Io.KnownBytes.{Appends};
+ghost use Rattle.std.specs.Prelude.{◌≡◌, ◌≤◌, ◌++◌, List, length, IfOk};
 ghost use Rattle.model_history.specs.declared.history.Entry.{Entry};
-ghost use Rattle.model_lockstep.specs.Walks.{CanFollow, input_played, inputs_from, run_end};
-ghost use Rattle.proxy_single_thread.specs.Singles.{walk_of};
 ghost use Rattle.impl_log.specs.Runs.{past};
-ghost use Rattle.player_lockstep.specs.Films.{Films, images_before};
+ghost use Rattle.player_lockstep.specs.Films.{Films};
 ghost use Rattle.byte_io.specs.Pieces.{PutsAll, WriteCause};
-ghost use Rattle.player_lockstep.specs.inner.Filming.{FilmsWay, newer_images};
+ghost use Rattle.player_lockstep.specs.inner.Filming.{newer_images};
 ghost use Rattle.player_lockstep.specs.inner.Ways.{IsFresh};
 
 use byte_io::{PutFault, Sink};
-use model_history::{Input, Script};
-use model_lockstep::{end_run, play_input};
+use model_history::Script;
+use model_lockstep::{Receiver, play_all};
 use proxy_single_thread::{Retention, SingleThread};
 use recording_writer::ImageWriter;
 use std::alloc::{AllocError, Global};
@@ -38,73 +35,45 @@ fn put_news<R: Threads + Sync, K: Sink>(
     images.put_scenes(rt, scenes, out)
 }
 
-// Plays what an input brings, and puts its images.
-fn film_input<R: Threads + Sync, K: Sink>(
-    rt: &R,
-    images: &mut ImageWriter,
-    single: &mut SingleThread,
-    input: &Input,
-    out: &mut K,
-) -> Result<(), PutFault>
-    requires can { CanFollow (input_played input.now) (walk_of single.old) }
-    requires all { single.old.written ≡ length single.old.run.entries }
-    ensures bytes { (start : Option (List ℕ)) → Appends start (K.held out.old) (images_before single.old.run.script (past single.old.run)) → FilmsWay (input_played input.now) start (K.held out.new) single.old.run single.new result }
-    ensures grows { K.faults out.old ≤ K.faults out.new }
-    ensures cause { WriteCause (K.faults out.old) (K.faults out.new) result }
-{
-    match play_input(rt, single, input) {
-        Ok(()) => put_news(rt, images, single, out),
-        Err(refused) => Err(PutFault::Memory(refused)),
-    }
+// Puts the images of what was entered.
+#[derive(Drop)]
+struct Film {
+    images: ImageWriter,
 }
 
-// Plays what these inputs bring, and puts its images input by input.
-fn film_inputs<R: Threads + Sync, K: Sink>(
-    rt: &R,
-    images: &mut ImageWriter,
-    single: &mut SingleThread,
-    inputs: &[Input],
-    out: &mut K,
-) -> Result<(), PutFault>
-    requires can { CanFollow (inputs_from inputs.now) (walk_of single.old) }
-    requires all { single.old.written ≡ length single.old.run.entries }
-    ensures bytes { (start : Option (List ℕ)) → Appends start (K.held out.old) (images_before single.old.run.script (past single.old.run)) → FilmsWay (inputs_from inputs.now) start (K.held out.new) single.old.run single.new result }
-    ensures grows { K.faults out.old ≤ K.faults out.new }
-    ensures cause { WriteCause (K.faults out.old) (K.faults out.new) result }
-{
-    let mut rest = inputs;
-    while let Some((input, after)) = rest.split_first() {
-        if let Err(stop) = film_input(rt, images, single, input, out) {
-            return Err(stop);
-        }
-        rest = after;
-    }
-    Ok(())
-}
+impl<K: Sink> Receiver<SingleThread, K> for Film {
+    ghost use Rattle.player_lockstep.specs.inner.Receivers.{Began, FilmStopped, HasFilmed};
 
-// Plays what is left after all inputs, and puts its images.
-fn film_end<R: Threads + Sync, K: Sink>(
-    rt: &R,
-    images: &mut ImageWriter,
-    single: &mut SingleThread,
-    out: &mut K,
-) -> Result<(), PutFault>
-    requires can { CanFollow run_end (walk_of single.old) }
-    requires all { single.old.written ≡ length single.old.run.entries }
-    ensures bytes { (start : Option (List ℕ)) → Appends start (K.held out.old) (images_before single.old.run.script (past single.old.run)) → FilmsWay run_end start (K.held out.new) single.old.run single.new result }
-    ensures grows { K.faults out.old ≤ K.faults out.new }
-    ensures cause { WriteCause (K.faults out.old) (K.faults out.new) result }
-{
-    match end_run(rt, single) {
-        Ok(()) => put_news(rt, images, single, out),
-        Err(refused) => Err(PutFault::Memory(refused)),
+    type Fault = PutFault;
+
+    ghost Start = { Began };
+
+    ghost has = { λ began s past _ out. HasFilmed began s past (K.held out) (K.faults out) };
+
+    ghost stopped = { λ began s past fault _ out. FilmStopped began s past fault (K.held out) (K.faults out) };
+
+    fn take<R: Threads + Sync>(
+        &mut self,
+        rt: &R,
+        single: &mut SingleThread,
+        out: &mut K,
+    ) -> Result<(), PutFault> {
+        put_news(rt, &mut self.images, single, out)
+    }
+
+    fn refused(error: AllocError) -> PutFault {
+        PutFault::Memory(error)
+    }
+
+    fn is_full(&self) -> bool {
+        false
     }
 }
 
 // Plays the whole run of a script, and puts its images.
 fn film_run<R: Threads + Sync, K: Sink>(
     rt: &R,
-    images: &mut ImageWriter,
+    film: &mut Film,
     single: &mut SingleThread,
     script: &Script,
     out: &mut K,
@@ -115,10 +84,7 @@ fn film_run<R: Threads + Sync, K: Sink>(
     ensures cause { WriteCause (K.faults out.old) (K.faults out.new) result }
 {
     script.is_accepted();
-    if let Err(stop) = film_inputs(rt, images, single, script.inputs(), out) {
-        return Err(stop);
-    }
-    film_end(rt, images, single, out)
+    play_all(rt, single, script.inputs(), film, out)
 }
 
 // The compositor of a script with the given number of workers, before anything was entered, and what writes its
@@ -127,13 +93,13 @@ fn prepare(
     alloc: Global,
     script: &Arc<Script>,
     workers: u32,
-) -> Result<(SingleThread, ImageWriter), AllocError>
+) -> Result<(SingleThread, Film), AllocError>
     requires { (1 ≤ workers) × (workers ≤ 16) }
     ensures { IfOk result (λ p. IsFresh script.now.value p.0) }
 {
     let images = ImageWriter::new(alloc, workers as usize)?;
     let single = SingleThread::new(alloc, Arc::try_clone(script)?, workers, Retention::Newest)?;
-    Ok((single, images))
+    Ok((single, Film { images }))
 }
 
 /// Plays an accepted script in lockstep with the given number of workers, and writes the images of its
@@ -153,7 +119,7 @@ pub fn film_lockstep<R: Threads + Sync, K: Sink>(
 {
     script.is_accepted();
     match prepare(alloc, &script, workers) {
-        Ok((mut single, mut images)) => film_run(rt, &mut images, &mut single, &script, out),
+        Ok((mut single, mut film)) => film_run(rt, &mut film, &mut single, &script, out),
         Err(refused) => Err(PutFault::Memory(refused)),
     }
 }

@@ -6,21 +6,19 @@ ghost use Rattle.model_history.specs.declared.history.Entry.{Entry};
 ghost use Rattle.model_history.specs.Lockstep.{IsLockstep};
 ghost use Rattle.model_history.specs.Recordings.{header, pieces};
 ghost use Rattle.script_json.specs.ScriptValue.{parts_data};
-ghost use Rattle.model_lockstep.specs.Walks.{CanFollow, input_played, inputs_from, run_end};
 ghost use Rattle.impl_log.specs.Kept.{forgettable};
 ghost use Rattle.impl_log.specs.Runs.{past};
-ghost use Rattle.proxy_single_thread.specs.Singles.{walk_of};
 ghost use Rattle.player_lockstep.specs.Recordings.{Records};
 ghost use Rattle.byte_io.specs.Pieces.{WriteCause};
 ghost use Rattle.recording_writer.specs.Parts.{Half, WritesPart};
 ghost use Rattle.recording_writer.specs.Repeats.{Keeps};
-ghost use Rattle.player_lockstep.specs.inner.Ways.{IsFresh, IsWritten, WritesWay, recorded_run, whole_played};
+ghost use Rattle.player_lockstep.specs.inner.Ways.{IsFresh, IsWritten, recorded_run};
 
 use crate::batches::record_batches;
 use byte_io::{PutFault, Sink};
 use impl_log::KeptHistory;
-use model_history::{Input, Script};
-use model_lockstep::{end_run, play_input};
+use model_history::Script;
+use model_lockstep::{Receiver, play_all};
 use proxy_single_thread::{Retention, SingleThread};
 use recording_writer::Recorder;
 use script_json::print_script;
@@ -63,6 +61,7 @@ fn write_news<R: Threads + Sync, K: Sink>(
     requires kept { forgettable (past single.old.run) ≤ single.old.written }
     requires keeps { Keeps single.old.run.script (reverse (take single.old.written single.old.run.entries)) single.old.run.entries recorder.old.last }
     ensures run { single.new.run ≡ single.old.run }
+    ensures all { single.new.written ≡ length single.old.run.entries }
     ensures written { OnOk result (IsWritten single.new recorder.new) }
     ensures bytes { (done news : List Entry) → single.old.run.entries ≡ done ++ news → single.old.written ≡ length done → WritesPart (K.held out.old) (K.held out.new) (recorder.old.lines.items ++ pieces single.old.run.script (reverse done) news) recorder.new.lines.items result }
     ensures grows { K.faults out.old ≤ K.faults out.new }
@@ -74,87 +73,39 @@ fn write_news<R: Threads + Sync, K: Sink>(
     recorder.write_entries(rt, out, single.core(), from, scenes)
 }
 
-// Plays what an input brings, and writes it.
-fn record_input<R: Threads + Sync, K: Sink>(
-    rt: &R,
-    recorder: &mut Recorder,
-    single: &mut SingleThread,
-    input: &Input,
-    out: &mut K,
-) -> Result<(), PutFault>
-    requires can { CanFollow (input_played input.now) (walk_of single.old) }
-    requires written { IsWritten single.old recorder.old }
-    ensures bytes { WritesWay (input_played input.now) single.old single.new (K.held out.old) (K.held out.new) recorder.old.lines.items recorder.new result }
-    ensures grows { K.faults out.old ≤ K.faults out.new }
-    ensures cause { WriteCause (K.faults out.old) (K.faults out.new) result }
-{
-    match play_input(rt, single, input) {
-        Ok(()) => write_news(rt, recorder, single, out),
-        Err(refused) => Err(PutFault::Memory(refused)),
-    }
+// Writes the recording of what was entered.
+#[derive(Drop)]
+struct Recording {
+    recorder: Recorder,
 }
 
-// Plays what these inputs bring, and writes it input by input.
-fn record_inputs<R: Threads + Sync, K: Sink>(
-    rt: &R,
-    recorder: &mut Recorder,
-    single: &mut SingleThread,
-    inputs: &[Input],
-    out: &mut K,
-) -> Result<(), PutFault>
-    requires can { CanFollow (inputs_from inputs.now) (walk_of single.old) }
-    requires written { IsWritten single.old recorder.old }
-    ensures bytes { WritesWay (inputs_from inputs.now) single.old single.new (K.held out.old) (K.held out.new) recorder.old.lines.items recorder.new result }
-    ensures grows { K.faults out.old ≤ K.faults out.new }
-    ensures cause { WriteCause (K.faults out.old) (K.faults out.new) result }
-{
-    let mut rest = inputs;
-    while let Some((input, after)) = rest.split_first() {
-        if let Err(stop) = record_input(rt, recorder, single, input, out) {
-            return Err(stop);
-        }
-        rest = after;
-    }
-    Ok(())
-}
+impl<K: Sink> Receiver<SingleThread, K> for Recording {
+    ghost use Rattle.player_lockstep.specs.inner.Receivers.{Began, HasRecorded, RecordStopped};
 
-// Plays what is left after all inputs, and writes it.
-fn record_end<R: Threads + Sync, K: Sink>(
-    rt: &R,
-    recorder: &mut Recorder,
-    single: &mut SingleThread,
-    out: &mut K,
-) -> Result<(), PutFault>
-    requires can { CanFollow run_end (walk_of single.old) }
-    requires written { IsWritten single.old recorder.old }
-    ensures bytes { WritesWay run_end single.old single.new (K.held out.old) (K.held out.new) recorder.old.lines.items recorder.new result }
-    ensures grows { K.faults out.old ≤ K.faults out.new }
-    ensures cause { WriteCause (K.faults out.old) (K.faults out.new) result }
-{
-    match end_run(rt, single) {
-        Ok(()) => write_news(rt, recorder, single, out),
-        Err(refused) => Err(PutFault::Memory(refused)),
-    }
-}
+    type Fault = PutFault;
 
-// Plays the whole run of these inputs, and writes it.
-fn record_run<R: Threads + Sync, K: Sink>(
-    rt: &R,
-    recorder: &mut Recorder,
-    single: &mut SingleThread,
-    inputs: &[Input],
-    out: &mut K,
-) -> Result<(), PutFault>
-    requires can { CanFollow (whole_played inputs.now) (walk_of single.old) }
-    requires written { IsWritten single.old recorder.old }
-    ensures bytes { WritesWay (whole_played inputs.now) single.old single.new (K.held out.old) (K.held out.new) recorder.old.lines.items recorder.new result }
-    ensures grows { K.faults out.old ≤ K.faults out.new }
-    ensures cause { WriteCause (K.faults out.old) (K.faults out.new) result }
-{
-    if let Err(stop) = record_inputs(rt, recorder, single, inputs, out) {
-        return Err(stop);
+    ghost Start = { Began };
+
+    ghost has = { λ began s past x out. HasRecorded began s past x.recorder (K.held out) (K.faults out) };
+
+    ghost stopped = { λ began s past fault _ out. RecordStopped began s past fault (K.held out) (K.faults out) };
+
+    fn take<R: Threads + Sync>(
+        &mut self,
+        rt: &R,
+        single: &mut SingleThread,
+        out: &mut K,
+    ) -> Result<(), PutFault> {
+        write_news(rt, &mut self.recorder, single, out)
     }
-    record_end(rt, recorder, single, out)
+
+    fn refused(error: AllocError) -> PutFault {
+        PutFault::Memory(error)
+    }
+
+    fn is_full(&self) -> bool {
+        false
+    }
 }
 
 // The compositor of a script with the given number of workers, before anything was entered, which keeps these
@@ -164,77 +115,87 @@ fn prepare(
     script: &Arc<Script>,
     workers: u32,
     retention: Retention,
-) -> Result<(SingleThread, Recorder, Vec<u8>), AllocError>
+) -> Result<(SingleThread, Recording, Vec<u8>), AllocError>
     requires { (1 ≤ workers) × (workers ≤ 16) }
     ensures fresh { IfOk result (λ p. IsFresh script.now.value p.0) }
-    ensures name { IfOk result (λ p. p.1.lines.items ≡ codes "cc1\n") }
-    ensures none { IfOk result (λ p. p.1.last.place ≡ None) }
+    ensures name { IfOk result (λ p. p.1.recorder.lines.items ≡ codes "cc1\n") }
+    ensures none { IfOk result (λ p. p.1.recorder.last.place ≡ None) }
     ensures text { IfOk result (λ p. p.2.items ≡ compact_text (parts_data script.now.value)) }
 {
     let text = print_script(alloc, script)?;
     let recorder = Recorder::new(alloc, workers as usize)?;
     let single = SingleThread::new(alloc, Arc::try_clone(script)?, workers, retention)?;
-    Ok((single, recorder, text))
+    Ok((single, Recording { recorder }, text))
 }
 
 // Plays and writes the whole run of a script after the lines before the events, and puts what is left.
 fn record_events<R: Threads + Sync, K: Sink>(
     rt: &R,
-    recorder: &mut Recorder,
+    recording: &mut Recording,
     single: &mut SingleThread,
     script: &Script,
     out: &mut K,
 ) -> Result<(), PutFault>
     requires fresh { IsFresh script.now single.old }
-    requires none { recorder.old.last.place ≡ None }
-    ensures bytes { (start : Option (List ℕ)) → Half start (K.held out.old) (header (compact_text (parts_data script.now))) recorder.old.lines.items → Records script.now start (K.held out.new) result }
+    requires none { recording.old.recorder.last.place ≡ None }
+    requires half { (start : Option (List ℕ)) × Half start (K.held out.old) (header (compact_text (parts_data script.now))) recording.old.recorder.lines.items }
+    ensures bytes { (start : Option (List ℕ)) → Half start (K.held out.old) (header (compact_text (parts_data script.now))) recording.old.recorder.lines.items → Records script.now start (K.held out.new) result }
     ensures history { IfOk result (λ whole. IsLockstep script.now single.new.run.entries) }
     ensures grows { K.faults out.old ≤ K.faults out.new }
     ensures cause { WriteCause (K.faults out.old) (K.faults out.new) result }
 {
     script.is_accepted();
-    if let Err(stop) = record_run(rt, recorder, single, script.inputs(), out) {
+    if let Err(stop) = play_all(rt, single, script.inputs(), recording, out) {
         return Err(stop);
     }
-    recorder.finish(out)
+    recording.recorder.finish(out)
 }
 
 // Plays and writes the whole run of a script after the lines before the events: batch by batch, painted beside the
 // compositor, if there are several workers.
 fn record_history<R: Threads + Sync, K: Sink>(
     rt: &R,
-    recorder: &mut Recorder,
+    recording: &mut Recording,
     single: &mut SingleThread,
     script: &Script,
     out: &mut K,
 ) -> Result<(), PutFault>
     requires fresh { IsFresh script.now single.old }
-    requires none { recorder.old.last.place ≡ None }
-    ensures bytes { (start : Option (List ℕ)) → Half start (K.held out.old) (header (compact_text (parts_data script.now))) recorder.old.lines.items → Records script.now start (K.held out.new) result }
+    requires none { recording.old.recorder.last.place ≡ None }
+    requires half { (start : Option (List ℕ)) × Half start (K.held out.old) (header (compact_text (parts_data script.now))) recording.old.recorder.lines.items }
+    ensures bytes { (start : Option (List ℕ)) → Half start (K.held out.old) (header (compact_text (parts_data script.now))) recording.old.recorder.lines.items → Records script.now start (K.held out.new) result }
     ensures history { IfOk result (λ whole. IsLockstep script.now single.new.run.entries) }
     ensures grows { K.faults out.old ≤ K.faults out.new }
     ensures cause { WriteCause (K.faults out.old) (K.faults out.new) result }
 {
-    let parts = recorder.parts();
+    let parts = recording.recorder.parts();
     if parts < 2 {
-        return record_events(rt, recorder, single, script, out);
+        return record_events(rt, recording, single, script, out);
     }
-    let lines = recorder.take_lines();
-    record_batches(rt, recorder.alloc(), parts, lines, single, script, out)
+    let lines = recording.recorder.take_lines();
+    record_batches(
+        rt,
+        recording.recorder.alloc(),
+        parts,
+        lines,
+        single,
+        script,
+        out,
+    )
 }
 
 // Writes the whole recording of a script with this text.
 fn record_whole<R: Threads + Sync, K: Sink>(
     rt: &R,
-    recorder: &mut Recorder,
+    recording: &mut Recording,
     single: &mut SingleThread,
     script: &Script,
     text: Vec<u8>,
     out: &mut K,
 ) -> Result<(), PutFault>
     requires fresh { IsFresh script.now single.old }
-    requires name { recorder.old.lines.items ≡ codes "cc1\n" }
-    requires none { recorder.old.last.place ≡ None }
+    requires name { recording.old.recorder.lines.items ≡ codes "cc1\n" }
+    requires none { recording.old.recorder.last.place ≡ None }
     requires text { text.items ≡ compact_text (parts_data script.now) }
     ensures bytes { Records script.now (K.held out.old) (K.held out.new) result }
     ensures history { IfOk result (λ whole. IsLockstep script.now single.new.run.entries) }
@@ -242,10 +203,10 @@ fn record_whole<R: Threads + Sync, K: Sink>(
     ensures cause { WriteCause (K.faults out.old) (K.faults out.new) result }
 {
     script.is_accepted();
-    let begun = recorder.begin(out, text.as_slice());
+    let begun = recording.recorder.begin(out, text.as_slice());
     drop(text);
     match begun {
-        Ok(()) => record_history(rt, recorder, single, script, out),
+        Ok(()) => record_history(rt, recording, single, script, out),
         Err(stop) => Err(stop),
     }
 }
@@ -263,21 +224,21 @@ fn end_with(single: SingleThread, written: Result<(), PutFault>) -> Result<Recor
 // Records the run of a script with a compositor and a recorder that are at its beginning.
 fn record_with<R: Threads + Sync, K: Sink>(
     rt: &R,
-    prepared: (SingleThread, Recorder, Vec<u8>),
+    prepared: (SingleThread, Recording, Vec<u8>),
     script: &Script,
     out: &mut K,
 ) -> Result<Recorded, PutFault>
     requires fresh { IsFresh script.now prepared.0 }
-    requires name { prepared.1.lines.items ≡ codes "cc1\n" }
-    requires none { prepared.1.last.place ≡ None }
+    requires name { prepared.1.recorder.lines.items ≡ codes "cc1\n" }
+    requires none { prepared.1.recorder.last.place ≡ None }
     requires text { prepared.2.items ≡ compact_text (parts_data script.now) }
     ensures bytes { Records script.now (K.held out.old) (K.held out.new) result }
     ensures history { IfOk result (IsLockstep script.now) }
     ensures grows { K.faults out.old ≤ K.faults out.new }
     ensures cause { WriteCause (K.faults out.old) (K.faults out.new) result }
 {
-    let (mut single, mut recorder, text) = prepared;
-    let written = record_whole(rt, &mut recorder, &mut single, script, text, out);
+    let (mut single, mut recording, text) = prepared;
+    let written = record_whole(rt, &mut recording, &mut single, script, text, out);
     end_with(single, written)
 }
 

@@ -1,17 +1,15 @@
 //! Scripts, played in lockstep, of which the picture of the last draw is made a file.
 
-ghost use Rattle.std.specs.Prelude.{◌≡◌, ◌≤◌, ◌++◌, List, length, option_map, IfOk, OnOk};
+ghost use Rattle.std.specs.Prelude.{◌≡◌, ◌≤◌, ◌++◌, List, length, option_map, IfOk};
 ghost use Rattle.model_history.specs.declared.history.Entry.{Entry};
-ghost use Rattle.model_lockstep.specs.Walks.{CanFollow, input_played, inputs_from, run_end};
-ghost use Rattle.proxy_single_thread.specs.Singles.{walk_of};
 ghost use Rattle.impl_log.specs.Runs.{past};
 ghost use Rattle.player_lockstep.specs.Films.{IsLastImage, last_image};
 ghost use Rattle.player_lockstep.specs.Shots.{IsShot};
-ghost use Rattle.player_lockstep.specs.inner.Shooting.{HasWatched, newest_image, shown};
+ghost use Rattle.player_lockstep.specs.inner.Shooting.{newest_image, shown};
 ghost use Rattle.player_lockstep.specs.inner.Ways.{IsFresh};
 
-use model_history::{Input, Script};
-use model_lockstep::{end_run, play_input};
+use model_history::Script;
+use model_lockstep::{Receiver, play_all};
 use proxy_single_thread::{Retention, SingleThread};
 use recording_writer::png_of;
 use std::alloc::{AllocError, Global};
@@ -42,57 +40,42 @@ fn keep_newest(single: &mut SingleThread, last: &mut Option<Scene>)
     *last = newest_of(scenes, before);
 }
 
-// Plays what an input brings, and keeps the newest scene.
-fn watch_input<R: Threads + Sync>(
-    rt: &R,
-    single: &mut SingleThread,
-    input: &Input,
-    last: &mut Option<Scene>,
-) -> Result<(), AllocError>
-    requires can { CanFollow (input_played input.now) (walk_of single.old) }
-    requires all { single.old.written ≡ length single.old.run.entries }
-    requires image { shown last.old ≡ last_image single.old.run.script (past single.old.run) }
-    ensures { OnOk result (HasWatched (input_played input.now) single.old.run single.new last.new) }
-{
-    play_input(rt, single, input)?;
-    keep_newest(single, last);
-    Ok(())
+// The newest scene of what was entered, if anything was drawn.
+#[derive(Drop)]
+struct Newest {
+    scene: Option<Scene>,
 }
 
-// Plays what these inputs bring, and keeps the newest scene.
-fn watch_inputs<R: Threads + Sync>(
-    rt: &R,
-    single: &mut SingleThread,
-    inputs: &[Input],
-    last: &mut Option<Scene>,
-) -> Result<(), AllocError>
-    requires can { CanFollow (inputs_from inputs.now) (walk_of single.old) }
-    requires all { single.old.written ≡ length single.old.run.entries }
-    requires image { shown last.old ≡ last_image single.old.run.script (past single.old.run) }
-    ensures { OnOk result (HasWatched (inputs_from inputs.now) single.old.run single.new last.new) }
-{
-    let mut rest = inputs;
-    while let Some((input, after)) = rest.split_first() {
-        watch_input(rt, single, input, last)?;
-        rest = after;
+impl Receiver<SingleThread, ()> for Newest {
+    ghost use Rattle.std.specs.Prelude.{◌≡◌, ⊤};
+    ghost use Rattle.player_lockstep.specs.Films.{last_image};
+    ghost use Rattle.player_lockstep.specs.inner.Shooting.{shown};
+
+    type Fault = AllocError;
+
+    ghost Start = { ⊤ };
+
+    ghost has = { λ _ s past newest _. shown newest.scene ≡ last_image s past };
+
+    ghost stopped = { λ _ _ _ _ _ _. ⊤ };
+
+    fn take<R: Threads + Sync>(
+        &mut self,
+        _rt: &R,
+        single: &mut SingleThread,
+        _out: &mut (),
+    ) -> Result<(), AllocError> {
+        keep_newest(single, &mut self.scene);
+        Ok(())
     }
-    Ok(())
-}
 
-// Plays what is left after all inputs, and keeps the newest scene.
-fn watch_end<R: Threads + Sync>(
-    rt: &R,
-    single: &mut SingleThread,
-    last: &mut Option<Scene>,
-) -> Result<(), AllocError>
-    requires can { CanFollow run_end (walk_of single.old) }
-    requires all { single.old.written ≡ length single.old.run.entries }
-    requires image { shown last.old ≡ last_image single.old.run.script (past single.old.run) }
-    ensures { OnOk result (HasWatched run_end single.old.run single.new last.new) }
-{
-    end_run(rt, single)?;
-    keep_newest(single, last);
-    Ok(())
+    fn refused(error: AllocError) -> AllocError {
+        error
+    }
+
+    fn is_full(&self) -> bool {
+        false
+    }
 }
 
 // The scene of the last draw of a script's run.
@@ -105,10 +88,10 @@ fn last_scene<R: Threads + Sync>(
     ensures { IfOk result (λ last. IsLastImage script.now (shown last)) }
 {
     script.is_accepted();
-    let mut last = None;
-    watch_inputs(rt, single, script.inputs(), &mut last)?;
-    watch_end(rt, single, &mut last)?;
-    Ok(last)
+    let mut newest = Newest { scene: None };
+    play_all(rt, single, script.inputs(), &mut newest, &mut ())?;
+    let Newest { scene } = newest;
+    Ok(scene)
 }
 
 // The file of the last picture of a script's run, which is painted in at most the given number of parts.

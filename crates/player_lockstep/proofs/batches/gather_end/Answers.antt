@@ -1,15 +1,25 @@
--- The end of the run was followed, and what it brought was added.
-use Rattle.model_lockstep.specs.Walks.{run_end}
-use Rattle.model_lockstep.proofs.Following.{then_on_ok}
-use Rattle.model_lockstep.proofs.Parts.{end_grows}
-use Rattle.player_lockstep.proofs.BatchedRuns.{way_gathered}
-use Rattle.player_lockstep.proofs.UsedInputs.{end_uses, kept_after}
+-- The end of the run was gathered.
+use Rattle.std.proofs.Common.{sym, ◌∙◌, ap}
+use Rattle.std.proofs.lemmas.List.{reverse-reverse}
+use Rattle.model_history.specs.declared.history.Entry.{Entry}
+use Rattle.std.specs.Prelude.{List}
+use Rattle.script_json.specs.Recordings.{recording}
+use Rattle.recording_writer.specs.Batches.{held_of}
+use Rattle.player_lockstep.specs.inner.Batches.{run_text}
+use Rattle.player_lockstep.proofs.BatchedRuns.{completes, ends_lockstep, waited}
 use Rattle.player_lockstep.proofs.batches.gather_end.Goals as goal
 
-pub gather_news-requires : goal.gather_news-requires
-gather_news-requires g c = kept_after run_end c.args.single.now c.end_run.new.core end_grows end_uses c.requires.all c.in_ok-end_run.ensures.ok
+pub play_end-requires-clause-has : goal.play_end-requires-clause-has
+play_end-requires-clause-has g c κs within =
+    let run = c.args.single.now.run in
+    (waited run (held_of c.args.gathering.now.batch), λ lead is. is ∙ ap (λ (es : List Entry). recording run.script es) (sym (reverse-reverse run.entries)))
 
-pub returns : goal.returns
-returns g c =
-    then_on_ok c.gather_news.result _ _ c.gather_news.ensures.bytes
-    (λ adds. way_gathered run_end c.args.single.now c.end_run.new.core c.gather_news.new.single _ _ end_grows c.in_ok-end_run.ensures.ok c.gather_news.ensures.run c.gather_news.ensures.all c.requires.all adds)
+pub returns-clause-lockstep : goal.returns-clause-lockstep
+returns-clause-lockstep g c = ends_lockstep c.play_end.result c.args.single.now.run.script c.play_end.new.core c.play_end.ensures.lockstep
+
+pub returns-clause-bytes : goal.returns-clause-bytes
+returns-clause-bytes g c =
+    let run = c.args.single.now.run in
+    let held = held_of c.args.gathering.now.batch in
+    completes c.play_end.result run.script (run_text run) c.play_end.new.core held (held_of c.play_end.new.receiver.batch)
+    (c.play_end.ensures.has (waited run held) (λ lead is. is ∙ ap (λ (es : List Entry). recording run.script es) (sym (reverse-reverse run.entries))))

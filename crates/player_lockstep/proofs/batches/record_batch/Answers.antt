@@ -3,20 +3,22 @@ use Rattle.std.proofs.Common.{◌<◌, length, subst, sym}
 use Rattle.std.specs.Prelude.{IfOk, OnErr, OnOk}
 use Rattle.byte_io.specs.Pieces.{GainsPrefix, WriteCause}
 use Rattle.recording_writer.specs.Batches.{held_of}
-use Rattle.player_lockstep.specs.inner.Batches.{StaysOn, run_text}
+use Rattle.model_lockstep.specs.Receivers.{StaysOn}
+use Rattle.proxy_single_thread.specs.Singles.{walk_of}
+use Rattle.player_lockstep.specs.inner.Batches.{run_text}
 use Rattle.recording_writer.specs.Parts.{Half}
 use Rattle.player_lockstep.proofs.BatchedRuns.{joint_cause, joint_err, joint_if, joint_ok, put_front}
 use Rattle.player_lockstep.proofs.batches.record_batch.Goals as goal
 
 pub returns-clause-course : goal.returns-clause-course
-returns-clause-course g c = subst (λ r. IfOk r (λ left. StaysOn left.now c.args.single.now.run c.play_beside-put.new.single)) (sym c.both_answer.ensures) (joint_if _ c.play_beside-put.result.0 c.play_beside-put.result.1 c.play_beside-put.ensures.course)
+returns-clause-course g c = subst (λ r. IfOk r (λ left. StaysOn left.now (walk_of c.args.single.now) (walk_of c.play_beside-put.new.single))) (sym c.both_answer.ensures) (joint_if _ c.play_beside-put.result.0 c.play_beside-put.result.1 c.play_beside-put.ensures.course)
 
 pub returns-clause-fewer : goal.returns-clause-fewer
 returns-clause-fewer g c = λ some. subst (λ r. IfOk r (λ left. length left.now < length c.args.inputs.now)) (sym c.both_answer.ensures) (joint_if _ c.play_beside-put.result.0 c.play_beside-put.result.1 (c.play_beside-put.ensures.fewer some))
 
 pub returns-clause-ok : goal.returns-clause-ok
 returns-clause-ok g c = λ start half.
-    subst (λ r. OnOk r (Half start (g.K.Sink.held c.play_beside-put.new.out) (run_text c.play_beside-put.new.single.run) (held_of c.play_beside-put.new.batch))) (sym c.both_answer.ensures)
+    subst (λ r. OnOk r (Half start (g.K.Sink.held c.play_beside-put.new.out) (run_text c.play_beside-put.new.single.run) (held_of c.play_beside-put.new.gathering.batch))) (sym c.both_answer.ensures)
     (joint_ok c.args.single.now.run c.play_beside-put.new.single.run start _ _ _ _ _ _ c.take_shots-shots.ensures.all half c.play_beside-put.result.0 c.play_beside-put.result.1 c.play_beside-put.ensures.bytes c.play_beside-put.ensures.put)
 
 pub returns-clause-err : goal.returns-clause-err

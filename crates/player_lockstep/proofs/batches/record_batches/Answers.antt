@@ -4,7 +4,8 @@ use Rattle.std.specs.Prelude.{IfOk, ⊤}
 use Rattle.model_history.specs.Lockstep.{IsLockstep}
 use Rattle.model_history.specs.Scripts.{ScriptModel}
 use Rattle.player_lockstep.specs.Recordings.{Records}
-use Rattle.player_lockstep.proofs.BatchedRuns.{fresh_course, fresh_half}
+use Rattle.player_lockstep.proofs.BatchedRuns.{fresh_half}
+use Rattle.player_lockstep.proofs.Received.{fresh_course}
 use Rattle.player_lockstep.proofs.FilmedRuns.{fresh_script}
 use Rattle.player_lockstep.proofs.batches.record_batches.Goals as goal
 
@@ -14,7 +15,7 @@ record_run-requires-clause-course g c κs within = fresh_course c.args.script.no
 pub returns-clause-bytes : goal.returns-clause-bytes
 returns-clause-bytes g c = λ start half.
     subst (λ (s : ScriptModel). Records {X = ⊤} s start (g.K.Sink.held c.record_run.new.out) c.record_run.result) (fresh_script c.args.script.now c.args.single.now c.requires)
-    (c.record_run.ensures.bytes start (fresh_half c.args.script.now c.args.single.now start _ c.args.lines.items _ c.requires c.new-batch.ensures half))
+    (c.record_run.ensures.bytes start (fresh_half c.args.script.now c.args.single.now start _ c.args.lines.items _ c.requires c.new.ensures half))
 
 pub returns-clause-history : goal.returns-clause-history
 returns-clause-history g c =

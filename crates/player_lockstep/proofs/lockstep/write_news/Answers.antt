@@ -42,6 +42,9 @@ write_entries-requires-clause-come g c κs within =
     (subst (λ (k : ℕ). AllCome run.script (reverse (take k run.entries)) (drop k run.entries) scenes) (sym c.written-from.ensures.written)
     (news_come run.script run.workers run.entries single.written scenes few legal c.take_scenes-scenes.ensures.scenes))
 
+pub returns-clause-all : goal.returns-clause-all
+returns-clause-all g c = ap (λ (m : SingleModel). m.written) c.take_scenes-scenes.ensures.taken
+
 pub returns-clause-written : goal.returns-clause-written
 returns-clause-written g c =
     let run : Run = c.args.single.now.run in
