@@ -1,5 +1,5 @@
 -- Which main frames are answered: all that were sent but the one that waits for its answer, and so every committed one.
-use Rattle.std.proofs.Common.{◌≡◌, ◌⊎◌, inl, inr, ℕ, suc, ◌<◌, ◌≤◌, ◌==◌, Bool, true, false, ◌||◌, List, [], ◌∷◌, Option, Some, None, refl, sym, ap, arith}
+use Rattle.std.proofs.Common.{◌≡◌, ◌⊎◌, inl, inr, ℕ, suc, ◌<◌, ◌≤◌, ◌==◌, Bool, true, false, ◌||◌, List, [], ◌∷◌, Option, Some, None, refl, ap, arith}
 use Rattle.model_states.specs.declared.states.MainState.{MainState}
 use Rattle.model_states.specs.declared.states.MainState.TheVariants as main
 use Rattle.model_states.specs.Kinds.{is_main_idle, is_sent, is_ready_to_commit}

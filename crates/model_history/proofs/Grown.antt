@@ -3,50 +3,45 @@ use Rattle.std.proofs.Common.{◌≡◌, ℕ, zero, suc, ◌-◌, ◌<◌, ◌�
 use Rattle.std.specs.List.{list_any, list_all}
 use Rattle.std.specs.Ordering.{int_eq}
 use Rattle.std.specs.Option.{option_or}
-use Rattle.geom.specs.declared.rect.Point.{Point}
-use Rattle.geom.specs.declared.tile.Place.{Place}
 use Rattle.geom.specs.declared.tile.TileKey.{TileKey}
 use Rattle.geom.specs.KeyLists.{has_key}
 use Rattle.tile_priority.specs.declared.rank.Rank.{Rank}
 use Rattle.tile_priority.specs.declared.rank.Side.{Side}
 use Rattle.tile_priority.specs.declared.rank.Side.TheVariants as side
 use Rattle.tile_priority.specs.Ranks.{least}
-use Rattle.tile_priority.specs.Choice.{Choice, evictable_key, evicted}
+use Rattle.tile_priority.specs.Choice.{evictable_key, evicted}
 use Rattle.tile_priority.specs.Choice as choosing
 use Rattle.tile_tiling.specs.Stamps.{stamp_of}
-use Rattle.tile_visible.specs.Visible.{viewport}
 use Rattle.page_layers.specs.declared.command.Command.{Command}
 use Rattle.page_layers.specs.declared.moves.Move.{Move}
 use Rattle.page_layers.specs.Axes.{Axis, across, down, amount_in, listed, named_in, with_numbers}
 use Rattle.page_layers.specs.Layers.{PageLayer, has_id}
-use Rattle.page_layers.specs.Pages.{Page}
 use Rattle.page_layers.specs.Effects.{page_after_pulls, commanded}
 use Rattle.page_layers.specs.Scrollers.{scrollers, most, main_value, offsets_in, amount_taken}
 use Rattle.page_layers.specs.Scrolls.{clamp_to}
 use Rattle.page_layers.specs.Hits.{target}
 use Rattle.page_layers.specs.Wheels.{wheel_parts, wheel_rest}
-use Rattle.model_states.specs.declared.Synced.{Synced}
 use Rattle.model_history.specs.declared.event.Event.{Event}
 use Rattle.model_history.specs.declared.event.Event.TheVariants as event
 use Rattle.model_history.specs.declared.input.Input.{Input}
 use Rattle.model_history.specs.declared.input.Input.TheVariants as input
 use Rattle.model_history.specs.declared.history.Entry.{Entry}
 use Rattle.model_history.specs.Scripts.{ScriptModel}
-use Rattle.model_history.specs.EventFields.{sends, answers, commits, retires, uses, begins, moves, scroll_move, kind_of, activates}
-use Rattle.model_history.specs.Scans.{names, was_named, newest, counted, held}
-use Rattle.model_history.specs.Frames.{blank, commands_of, page, page_before, main_move, changes, is_empty, pulls_of, is_left, active, pending, up_to, active_page, pending_page}
+use Rattle.model_history.specs.EventFields.{sends, answers, commits, retires, uses, moves, scroll_move, kind_of, activates}
+use Rattle.model_history.specs.Scans.{was_named, counted, held}
+use Rattle.model_history.specs.Frames.{commands_of, page, main_move, changes, is_empty, pulls_of, is_left, active, pending, up_to, active_page, pending_page}
 use Rattle.model_history.specs.Stamps.{changed_by, unchanged, frame_changes, commits_to, place_rect, stamp_in}
-use Rattle.model_history.specs.Scrolls.{plus_counted, sum_of_moves, not_sent, by_send, in_base, in_delta, main_moves, base_of, delta_of, base, delta, offset, active_then, retired_then, pending_base, offset_then, scrolls_to, clobbers, pending_offset, unsent, carried, scrollers_moved, next_pulls, clamp_move, next_clamps, accepted, active_offsets, pending_offsets}
+use Rattle.model_history.specs.Scrolls.{plus_counted, sum_of_moves, not_sent, by_send, in_base, in_delta, main_moves, base_of, delta_of, base, delta, offset, active_then, retired_then, pending_base, offset_then, scrolls_to, clobbers, pending_offset, unsent, scrollers_moved, next_pulls, next_clamps, accepted, active_offsets, pending_offsets}
 use Rattle.model_history.specs.Tiles.{Tree, active_tree, pending_tree, keys_of, visible_in, live_keys, made_so_far, in_flight, ready, required, pinned_by, pinned, are_ready, missing_visible}
-use Rattle.model_history.specs.Ranking.{borders, place_named, rank_on, rank_in, rank, is_unmade, wanted, ready_tile, choice, rank_to_start, evicted_for}
-use Rattle.model_history.specs.Due.{on_if, next_input, input_now, asks_draw, due_ready, due_abort, due_activate, due_scroll, due_wheel, due_start, due_draw, due_await, due_settle, is_settled, due}
-use Rattle.model_history.specs.Legal.{sched, Next, Legal}
+use Rattle.model_history.specs.Ranking.{rank_on, rank_in, rank, wanted, choice, rank_to_start, evicted_for}
+use Rattle.model_history.specs.Due.{on_if, next_input, input_now, asks_draw, due_ready, due_abort, due_activate, due_scroll, due_wheel, due_start, due_draw, due_await, due_settle, due}
+use Rattle.model_history.specs.Legal.{Next, Legal}
 use Rattle.model_history.specs.Growth.{with_main_and_inputs, looks_ahead, has_looked_ahead, ReadsAlike, TellsAlike}
 use Rattle.model_history.specs.ScrollLaws.{carried_by, frame_in_flight, AreSums}
 use Rattle.model_history.specs.Values.{values}
 use Rattle.model_history.proofs.BoolFacts.{below, or_left_false, or_right_false}
-use Rattle.model_history.proofs.DueFacts.{entry, at_begin, at_send, at_ready, at_abort, at_activate, at_scroll, at_wheel, at_draw}
-use Rattle.model_history.proofs.Course.{Course, course}
+use Rattle.model_history.proofs.DueFacts.{entry, at_send, at_ready, at_abort, at_activate, at_scroll, at_wheel, at_draw}
+use Rattle.model_history.proofs.Course.{course}
 use Rattle.model_history.proofs.AnsweredFrames.{Answered, answered_course, answered_next, active_answered, pending_answered, counted_more}
 use Rattle.model_history.proofs.ValueSums.{are_sums}
 

@@ -5,7 +5,7 @@ use Rattle.page_layers.specs.declared.command.Command.{Command}
 use Rattle.model_history.specs.declared.input.Input.{Input}
 use Rattle.model_history.specs.declared.history.Entry.{Entry}
 use Rattle.model_history.specs.Scripts.{ScriptModel}
-use Rattle.model_history.specs.EventFields.{sends, answers}
+use Rattle.model_history.specs.EventFields.{answers}
 use Rattle.model_history.specs.Scans.{counted}
 use Rattle.model_history.specs.Legal.{sched, Legal}
 use Rattle.model_history.specs.Growth.{with_last, ReadsAlike}

@@ -1,12 +1,10 @@
 -- What shows a key of one script shows it of another that has a page with the key.
-use Rattle.std.proofs.Common.{◌≡◌, ℕ, ℤ, true, List, Some, ap, ◌∙◌}
+use Rattle.std.proofs.Common.{◌≡◌, ℕ, true, List, ap, ◌∙◌}
 use Rattle.geom.specs.declared.rect.Rect.{Rect}
-use Rattle.geom.specs.declared.tile.Place.{Place}
 use Rattle.geom.specs.declared.tile.TileKey.{TileKey}
 use Rattle.geom.specs.Covers.{covers}
 use Rattle.geom.specs.KeyLists.{has_key}
 use Rattle.page_display_list.specs.declared.item.Item.{Item}
-use Rattle.page_display_list.specs.Content.{content}
 use Rattle.page_layers.specs.Contents.{content_at}
 use Rattle.page_layers.specs.Pages.{Page}
 use Rattle.page_layers.specs.declared.moves.Move.{Move}
