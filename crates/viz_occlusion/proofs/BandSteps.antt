@@ -1,21 +1,21 @@
 -- What bands cover.
-use Rattle.std.proofs.Common.{◌≡◌, ◌≢◌, ◌⊎◌, inl, inr, ℕ, zero, suc, ◌+◌, ◌*◌, ◌/◌, ◌<◌, ◌≤◌, ℤ, pos, negsuc, ◌+ℤ◌, ◌≤ℤ◌, ◌<ℤ◌, Bool, true, false, ◌||◌, List, [], ◌∷◌, ◌++◌, length, get_or, set, refl, sym, ◌∙◌, ap, subst, arith}
+use Rattle.std.proofs.Common.{◌≡◌, ◌⊎◌, inl, inr, ℕ, zero, suc, ◌+◌, ◌*◌, ◌/◌, ◌<◌, ◌≤◌, ℤ, pos, negsuc, ◌+ℤ◌, ◌≤ℤ◌, ◌<ℤ◌, Bool, true, false, ◌||◌, List, [], length, get_or, refl, sym, ◌∙◌, ap, subst, arith}
 use Rattle.std.specs.Int.{int_min, int_max}
 use Rattle.std.proofs.lemmas.Int.{ints, clamps}
-use Rattle.std.proofs.lemmas.Grind.{get_or-set_at}
-use Rattle.std.proofs.lemmas.List.{get_or-set_other, get_or_default}
+use Rattle.std.proofs.lemmas.List.{get_or_default}
 use Rattle.geom.specs.declared.Rect.{Rect}
 use Rattle.geom.specs.Covers.{covers}
 use Rattle.geom.proofs.Spans.{inside, is_within_of, both, both_of}
 use Rattle.region.specs.Points.{covered}
 use Rattle.viz_scene.specs.Areas.{IsOnScreen}
 use Rattle.viz_scene.specs.Views.{QuadView}
-use Rattle.viz_scene.specs.Opaque.{IsOpaque, LiesOn, IsCovered}
+use Rattle.viz_scene.specs.Opaque.{IsCovered}
 use Rattle.viz_occlusion.specs.inner.Cover.{IsBlock, IsOpen, IsCover}
-use Rattle.viz_occlusion.specs.inner.Bands.{InBand, has_point, IsNothing, Gains, GainsFrom, GainsInBands, IsBlockOfBand, IsOpenInBand, IsBlockOfBands, IsOpenInBands, IsInBands, HasGap}
+use Rattle.viz_occlusion.specs.inner.Bands.{InBand, has_point, GainsFrom, GainsInBands, IsBlockOfBand, IsOpenInBand, IsBlockOfBands, IsOpenInBands, IsInBands, HasGap}
 
 -- ---- numbers
 
+-- a number is below another, or it is not
 less_or_not : (a b : ℕ) → (a < b) ⊎ (b ≤ a)
 less_or_not zero zero = inr (omega arith)
 less_or_not zero (suc b) = inl (omega arith)
@@ -26,49 +26,14 @@ less_or_not (suc a) (suc b) = up (less_or_not a b)
     up (inl l) = inl (omega (arith, l))
     up (inr l) = inr (omega (arith, l))
 
-not_both : (b : Bool) → b ≡ true → b ≡ false → ⊥
-not_both true h k = cc
-not_both false h k = cc
-
--- the band of a row
-pub row_in : (n : ℕ) → InBand (n / 32) (pos n)
-row_in n = record { low = omega (arith, ints); high = omega (arith, ints) }
-
+-- each row lies in a band
 in_some_band : (y : ℤ) → pos 0 ≤ℤ y → (k : ℕ) × InBand k y
-in_some_band (pos n) h = (n / 32, row_in n)
+in_some_band (pos n) h = (n / 32, record { low = omega (arith, ints); high = omega (arith, ints) })
 in_some_band (negsuc n) h = absurd (omega (arith, ints, h))
 
 -- ---- adding
 
-pub gains_none : (first : ℕ) (old : List (List Rect)) (r : Rect) → GainsFrom first first old old r
-gains_none first old r = record { more = λ k a b. absurd (omega (arith, a, b)); same = λ k far. refl }
-
-pub gains_more : (first i : ℕ) (old now : List (List Rect)) (new : List Rect) (r : Rect) → first ≤ i → i < length now → Gains (get_or now i []) new r
-    → GainsFrom first i old now r → GainsFrom first (i + 1) old (set now i new) r
-gains_more first i old now new r le lt grown is = record { more = more; same = same }
-  where
-    other : (k : ℕ) → k ≢ i → get_or (set now i new) k [] ≡ get_or now k []
-    other k ne = get_or-set_other now i k new [] ne
-
-    at_place : (k : ℕ) → first ≤ k → k < i + 1 → (k < i) ⊎ (i ≤ k) → Gains (get_or old k []) (get_or (set now i new) k []) r
-    at_place k a b (inl less) =
-        λ x y. ap (λ (z : List Rect). covered z x y) (other k (λ e. absurd (omega (arith, less, e)))) ∙ is.more k a less x y
-    at_place k a b (inr not_less) =
-        let e : k ≡ i = omega (arith, b, not_less) in
-        let before : get_or now i [] ≡ get_or old k [] = sym (ap (λ (n : ℕ). get_or now n []) e) ∙ is.same k (inr not_less) in
-        λ x y.
-        ap (λ (z : List Rect). covered z x y) (get_or-set_at now i k new [] e lt)
-        ∙ grown x y
-        ∙ ap (λ (z : List Rect). covered z x y || covers r x y) before
-
-    more : (k : ℕ) → first ≤ k → k < i + 1 → Gains (get_or old k []) (get_or (set now i new) k []) r
-    more k a b = at_place k a b (less_or_not k i)
-
-    same : (k : ℕ) → (k < first) ⊎ (i + 1 ≤ k) → get_or (set now i new) k [] ≡ get_or old k []
-    same k (inl before) = other k (λ e. absurd (omega (arith, before, le, e))) ∙ is.same k (inl before)
-    same k (inr after) = other k (λ e. absurd (omega (arith, after, e))) ∙ is.same k (inr (omega (arith, after)))
-
--- no row of another band is one of the rect's
+-- no point above or below a rect is one of the rect's
 off_rows : (r : Rect) (x y : ℤ) → (y <ℤ r.y) ⊎ ((r.y +ℤ r.h) ≤ℤ y) → covers r x y ≡ false
 off_rows r x y off = by_test (covers r x y) refl off
   where
@@ -81,6 +46,7 @@ or_false : (b c : Bool) → c ≡ false → b ≡ (b || c)
 or_false true c e = refl
 or_false false c e = sym e
 
+-- if the bands that the rect meets have its points, all bands have those that lie in their rows
 pub gains_all : (first end : ℕ) (old new : List (List Rect)) (r : Rect) → InBand first r.y → (r.y +ℤ r.h) ≤ℤ pos (32 * end) → GainsFrom first end old new r
     → GainsInBands old new r
 gains_all first end old new r start stop is k x y row = by_place (less_or_not k first) (less_or_not k end)
@@ -94,18 +60,9 @@ gains_all first end old new r start stop is k x y row = by_place (less_or_not k 
     by_place (inr from) (inl to) = is.more k from to x y
     by_place (inr from) (inr after) = let low = row.low in same (inr after) (off_rows r x y (inr (omega (arith, ints, after, low, stop))))
 
-pub in_order : (first end : ℕ) (r : Rect) → InBand first r.y → (r.y +ℤ r.h) ≤ℤ pos (32 * end) → pos 0 ≤ℤ r.h → first ≤ end
-in_order first end r start stop h = let low = start.low in omega (arith, ints, low, stop, h)
-
--- nothing, and one empty band more
-pub nothing_more : (bands : List (List Rect)) → IsNothing bands → IsNothing (bands ++ [] ∷ [])
-nothing_more [] none zero = refl
-nothing_more [] none (suc k) = refl
-nothing_more (b ∷ bs) none zero = none zero
-nothing_more (b ∷ bs) none (suc k) = nothing_more bs (λ n. none (suc n)) k
-
 -- ---- asking
 
+-- the rows of a band among some rows
 pub block_of_band : (k : ℕ) (rects : List Rect) (left right top bottom from to : ℤ) → from ≡ int_max top (pos (32 * k))
     → to ≡ int_min bottom (pos (32 * k) +ℤ pos 32) → IsBlock rects left right from to → IsBlockOfBand k rects left right top bottom
 block_of_band k rects left right top bottom from to e f block x y row within =
@@ -134,20 +91,7 @@ open_in_band k rects left right top bottom from to e f o =
       outside = o.outside;
     }
 
--- the bands before the first one have none of the rows, nor have those from the end on
-pub before_first : (k first : ℕ) (rects : List Rect) (left right top bottom : ℤ) → InBand first top → k < first → IsBlockOfBand k rects left right top bottom
-before_first k first rects left right top bottom start lt x y row within =
-    let low = start.low in
-    let high = row.high in
-    let above = within.from_top in
-    absurd (omega (arith, ints, low, high, above, lt))
-
-pub after_end : (k end : ℕ) (rects : List Rect) (left right top bottom : ℤ) → bottom ≤ℤ pos (32 * end) → end ≤ k → IsBlockOfBand k rects left right top bottom
-after_end k end rects left right top bottom stop le x y row within =
-    let low = row.low in
-    let below = within.from_bottom in
-    absurd (omega (arith, ints, low, below, stop, le))
-
+-- one band more is covered
 pub bands_more : (i : ℕ) (bands : List (List Rect)) (left right top bottom : ℤ) → ((k : ℕ) → k < i → IsBlockOfBand k (get_or bands k []) left right top bottom)
     → IsBlockOfBand i (get_or bands i []) left right top bottom → (k : ℕ) → k < i + 1 → IsBlockOfBand k (get_or bands k []) left right top bottom
 bands_more i bands left right top bottom before here k lt = by_place (less_or_not k i)
@@ -156,14 +100,6 @@ bands_more i bands left right top bottom before here k lt = by_place (less_or_no
     by_place (inl less) = before k less
     by_place (inr not_less) =
         let e : i ≡ k = omega (arith, lt, not_less) in subst (λ (n : ℕ). IsBlockOfBand n (get_or bands n []) left right top bottom) e here
-
-pub bands_all : (i end : ℕ) (bands : List (List Rect)) (left right top bottom : ℤ) → bottom ≤ℤ pos (32 * end) → end ≤ i
-    → ((k : ℕ) → k < i → IsBlockOfBand k (get_or bands k []) left right top bottom) → IsBlockOfBands bands left right top bottom
-bands_all i end bands left right top bottom stop le before k = by_place (less_or_not k i)
-  where
-    by_place : (k < i) ⊎ (i ≤ k) → IsBlockOfBand k (get_or bands k []) left right top bottom
-    by_place (inl less) = before k less
-    by_place (inr not_less) = after_end k end (get_or bands k []) left right top bottom stop (omega (arith, le, not_less))
 
 -- the rects of a band
 pub band_at : (bands : List (List Rect)) (i : ℕ) (band rects : List Rect) → i < length bands → band ≡ get_or bands i band → rects ≡ band → rects ≡ get_or bands i []
@@ -206,6 +142,7 @@ area_gap area bands right bottom e f o =
 
 -- ---- quads
 
+-- a quad each of whose points is covered is hidden
 pub hidden_by : (at : Rect) (bands : List (List Rect)) (later : List QuadView) → IsOnScreen at → IsInBands at bands → IsCover later bands
     → (x y : ℤ) → covers at x y ≡ true → IsCovered x y later
 hidden_by at bands later on are is x y h =
@@ -213,32 +150,3 @@ hidden_by at bands later on are is x y h =
     let low : at.y ≤ℤ y = (inside at.y at.h y (both _ _ h).1).low in
     let some = in_some_band y (omega (arith, ints, top, low)) in
     is.sound some.0 x y some.1 (are some.0 x y some.1 h)
-
-pub seen_by : (at : Rect) (bands : List (List Rect)) (later : List QuadView) → HasGap at bands → IsCover later bands
-    → ((x y : ℤ) → covers at x y ≡ true → IsCovered x y later) → ⊥
-seen_by at bands later g is all = not_both (has_point bands g.band g.x g.y) (is.whole g.band g.x g.y g.row (all g.x g.y g.inside)) g.outside
-
-pub cover_none : (bands : List (List Rect)) → IsNothing bands → IsCover [] bands
-cover_none bands none = record {
-  sound = λ k x y row h. not_both (has_point bands k x y) h (ap (λ (rs : List Rect). covered rs x y) (none k));
-  whole = λ k x y row h. absurd h;
-}
-
-pub cover_more : (q : QuadView) (later : List QuadView) (old new : List (List Rect)) (r : Rect) → IsOpaque q → ((x y : ℤ) → covers r x y ≡ true → LiesOn x y q)
-    → ((x y : ℤ) → LiesOn x y q → covers r x y ≡ true) → GainsInBands old new r → IsCover later old → IsCover (q ∷ later) new
-cover_more q later old new r opaque lies on gains is = record { sound = sound; whole = whole }
-  where
-    sound : (k : ℕ) (x y : ℤ) → InBand k y → has_point new k x y ≡ true → IsCovered x y (q ∷ later)
-    sound k x y row h = by_test (has_point old k x y) refl
-      where
-        by_test : (t : Bool) → has_point old k x y ≡ t → IsCovered x y (q ∷ later)
-        by_test true e = inr (is.sound k x y row e)
-        by_test false e = inl (opaque, lies x y (sym (gains k x y row ∙ ap (λ (b : Bool). b || covers r x y) e) ∙ h))
-
-    whole : (k : ℕ) (x y : ℤ) → InBand k y → IsCovered x y (q ∷ later) → has_point new k x y ≡ true
-    whole k x y row (inl here) = gains k x y row ∙ ap (λ (b : Bool). has_point old k x y || b) (on x y here.1) ∙ or_true (has_point old k x y)
-      where
-        or_true : (b : Bool) → (b || true) ≡ true
-        or_true true = refl
-        or_true false = refl
-    whole k x y row (inr there) = gains k x y row ∙ ap (λ (b : Bool). b || covers r x y) (is.whole k x y row there)
