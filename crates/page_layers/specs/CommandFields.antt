@@ -65,17 +65,17 @@ abbrev pub layer_ops : List Op
 layer_ops = op.AddLayer ∷ op.RemoveLayer ∷ op.ResizeLayer ∷ op.SetColour ∷ op.InsertItem ∷ op.RemoveItem ∷ op.ReplaceItem ∷ op.MoveLayer ∷ op.SetView ∷ []
 
 -- the first of these commands that has this name
-abbrev pub named_in : List Op → List ℕ → Option Op
-named_in [] s = None
-named_in (o ∷ os) s = if bytes_eq s (op_name o) then Some o else named_in os s
+abbrev pub first_named : List Op → List ℕ → Option Op
+first_named [] s = None
+first_named (o ∷ os) s = if bytes_eq s (op_name o) then Some o else first_named os s
 
 -- the command of this name on the nodes of a page
 unfoldable pub node_op_named : List ℕ → Option Op
-node_op_named s = named_in node_ops s
+node_op_named s = first_named node_ops s
 
 -- the command of this name on the layers of a page, their items or the view
 unfoldable pub layer_op_named : List ℕ → Option Op
-layer_op_named s = named_in layer_ops s
+layer_op_named s = first_named layer_ops s
 
 -- the first of two that there is
 abbrev pub first_of : Option Op → Option Op → Option Op
@@ -87,13 +87,13 @@ unfoldable pub op_named : List ℕ → Option Op
 op_named s = first_of (node_op_named s) (layer_op_named s)
 
 -- the first of these commands that has this number
-abbrev pub numbered_in : List Op → ℕ → Option Op
-numbered_in [] n = None
-numbered_in (o ∷ os) n = if n == op_number o then Some o else numbered_in os n
+abbrev pub first_numbered : List Op → ℕ → Option Op
+first_numbered [] n = None
+first_numbered (o ∷ os) n = if n == op_number o then Some o else first_numbered os n
 
 -- the command of this number
 unfoldable pub op_numbered : ℕ → Option Op
-op_numbered n = first_of (numbered_in node_ops n) (numbered_in layer_ops n)
+op_numbered n = first_of (first_numbered node_ops n) (first_numbered layer_ops n)
 
 -- the fields of a command
 abbrev pub fields : Op → List Field
