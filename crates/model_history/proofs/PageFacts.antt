@@ -8,7 +8,7 @@ use Rattle.page_layers.specs.declared.command.Command.TheVariants as command
 use Rattle.page_layers.specs.Pages.{Page}
 use Rattle.page_layers.specs.Effects.{scrolled_by, page_after_command, page_after_pulls, commanded}
 use Rattle.page_layers.specs.Outcomes.{Accepts, StandTogether}
-use Rattle.page_layers.specs.Refusals.{test_of, add_transform_test, set_transform_test, add_clip_test, set_clip_test, add_effect_test, set_opacity_test, add_scroller_test, set_range_test, scroll_by_test, scroll_to_test, add_layer_test, remove_layer_test, resize_layer_test, set_colour_test, insert_item_test, remove_item_test, replace_item_test, move_layer_test}
+use Rattle.page_layers.proofs.TestFacts.{test_values}
 use Rattle.page_layers.specs.declared.moves.Move.{Move}
 use Rattle.model_history.specs.Scripts.{ScriptModel}
 use Rattle.page_layers.specs.Axes.{Axis, across, down, amount_in, named_in}
@@ -84,11 +84,6 @@ pub page_before_values : (s : ScriptModel) (ps qs : ℕ → List Move) (n : ℕ)
 page_before_values s ps qs n = before_values s ps qs n (page_values s ps qs n)
 
 -- a page takes the same commands whatever its main values are
-
-test_values : (p : Page) (vs : List (ℕ × Point)) (c : Command) → test_of (with_values p vs) c ≡ test_of p c
-unfolding add_transform_test set_transform_test add_clip_test set_clip_test add_effect_test set_opacity_test add_scroller_test set_range_test scroll_by_test scroll_to_test add_layer_test remove_layer_test resize_layer_test set_colour_test insert_item_test remove_item_test replace_item_test move_layer_test
-test_values p vs (command.AddTransform c) = refl
-test_values p vs _ = refl
 
 accepts_values : (p : Page) (vs : List (ℕ × Point)) (c : Command) → Accepts p c → Accepts (with_values p vs) c
 accepts_values p vs c a = record {

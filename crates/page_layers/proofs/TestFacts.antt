@@ -4,18 +4,21 @@ use Rattle.std.specs.Prelude.{⊤, neg_ℤ, ◌≤ℤ◌, int_lt, nat_lt, nat_le
 use Rattle.std.specs.List.{list_any}
 use Rattle.std.proofs.lemmas.Int.{ints}
 use Rattle.std.proofs.lemmas.Bool.Decides.{nat_tests}
+use Rattle.geom.specs.declared.rect.Point.{Point}
 use Rattle.geom.specs.declared.rect.Rect.{Rect}
 use Rattle.geom.specs.Covers.{IsSound}
 use Rattle.page_properties.specs.Entries.{knows, is_known}
 use Rattle.page_properties.specs.Trees.{IsNearParent, IsClipRect, MayJoinTransforms, MayJoinClips, MayJoinEffects, MayJoinScrollers}
 use Rattle.page_display_list.specs.declared.item.Item.{Item}
 use Rattle.page_display_list.specs.Content.{rect_of_item}
+use Rattle.page_layers.specs.declared.command.Command.{Command}
+use Rattle.page_layers.specs.declared.command.Command.TheVariants as command
 use Rattle.page_layers.specs.declared.fault.EditFault.{EditFault}
 use Rattle.page_layers.specs.declared.fault.EditFault.TheVariants as fault
 use Rattle.page_layers.specs.Tests.{◌>>=◌, require, check_range, is_id}
 use Rattle.page_layers.specs.Pages.{Page, IsView}
 use Rattle.page_layers.specs.Layers.{PageLayer, has_id}
-use Rattle.page_layers.specs.Refusals.{is_offset, is_clip_rect, is_item_rect, is_scroll_range, takes, count_in, item_count, add_transform_test, set_transform_test, add_clip_test, set_clip_test, add_effect_test, set_opacity_test, add_scroller_test, set_range_test, insert_item_test, remove_item_test, replace_item_test, set_view_test, move_layer_test, add_layer_test, has_layer}
+use Rattle.page_layers.specs.Refusals.{is_offset, is_clip_rect, is_item_rect, is_scroll_range, takes, count_in, item_count, add_transform_test, set_transform_test, add_clip_test, set_clip_test, add_effect_test, set_opacity_test, add_scroller_test, set_range_test, scroll_by_test, scroll_to_test, remove_layer_test, resize_layer_test, set_colour_test, insert_item_test, remove_item_test, replace_item_test, set_view_test, move_layer_test, add_layer_test, has_layer, test_of}
 
 -- both tests of a chain passed
 pub passed : {A B : Type 0} (r : Result A EditFault) (k : A → Result B EditFault) (y : B) → (r >>= k) ≡ Ok y → (x : A) × (r ≡ Ok x) × (k x ≡ Ok y)
@@ -246,3 +249,11 @@ add_layer_facts p l at ok =
     let place = passed (require (nat_le at (length p.layers)) fault.BadPlace) _ tt unused.2 in
     let below : nat_le at (length p.layers) ≡ true = held (nat_le at (length p.layers)) fault.BadPlace place.1 in
     grind (arith, nat_tests, below)
+
+-- ---- main values
+
+-- a page takes the same commands whatever its main values are
+pub test_values : (p : Page) (vs : List (ℕ × Point)) (c : Command) → test_of (record p { values = vs }) c ≡ test_of p c
+unfolding add_transform_test set_transform_test add_clip_test set_clip_test add_effect_test set_opacity_test add_scroller_test set_range_test scroll_by_test scroll_to_test add_layer_test remove_layer_test resize_layer_test set_colour_test insert_item_test remove_item_test replace_item_test move_layer_test
+test_values p vs (command.AddTransform c) = refl
+test_values p vs _ = refl
