@@ -1,5 +1,5 @@
 -- The three ways in which a script is told while it is played: what a past has read stays as it was.
-use Rattle.std.proofs.Common.{◌≡◌, ℕ, zero, suc, ◌<◌, true, List, [], ◌∷◌, ◌++◌, length, slice_get, slice_index_or, refl, ap, arith}
+use Rattle.std.proofs.Common.{◌≡◌, ℕ, zero, suc, ◌<◌, true, List, [], ◌∷◌, ◌++◌, length, map, slice_get, slice_index_or, refl, sym, ◌∙◌, ap, arith}
 use Rattle.model_states.specs.Kinds.{is_sent}
 use Rattle.page_layers.specs.declared.command.Command.{Command}
 use Rattle.model_history.specs.declared.input.Input.{Input}
@@ -41,6 +41,21 @@ others_stay cs [] k l = refl
 others_stay cs (f ∷ []) k l = absurd (omega (arith, l))
 others_stay cs (f ∷ g ∷ fs) zero l = refl
 others_stay cs (f ∷ g ∷ fs) (suc k) l = others_stay cs (g ∷ fs) k (omega (arith, l))
+
+-- the last of several
+last_is : (cs f : List Command) (fs : List (List Command)) → with_last cs (fs ++ f ∷ []) ≡ fs ++ cs ∷ []
+last_is cs f [] = refl
+last_is cs f (g ∷ []) = refl
+last_is cs f (g ∷ h ∷ fs) = ap (λ (z : List (List Command)). g ∷ z) (last_is cs f (h ∷ fs))
+
+each_and_last : {A B : Type 0} (f : A → B) (xs : List A) (x : A) → map f (xs ++ x ∷ []) ≡ map f xs ++ f x ∷ []
+each_and_last f [] x = refl
+each_and_last f (y ∷ xs) x = ap (λ (z : List _). f y ∷ z) (each_and_last f xs x)
+
+-- where another stands in place of the last
+pub last_replaced : {A : Type 0} (f : A → List Command) (old new xs : List A) (x y : A) → old ≡ xs ++ x ∷ [] → new ≡ xs ++ y ∷ [] → map f new ≡ with_last (f y) (map f old)
+last_replaced f old new xs x y was is =
+    ap (map f) is ∙ (each_and_last f xs y ∙ sym (ap (with_last (f y)) (ap (map f) was ∙ each_and_last f xs x) ∙ last_is (f y) (f x) (map f xs)))
 
 -- ---- what a past has read
 
