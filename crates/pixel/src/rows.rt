@@ -44,7 +44,7 @@ fn row_over_row(surface: &mut [u8], size: Size, at: Area, row: &[u8], from: usiz
 }
 
 // Lays `n` pixels of the row, from its pixel `from` on, over those from pixel `k` on.
-fn row_over_run(surface: &mut [u8], k: usize, n: usize, row: &[u8], from: usize)
+pub(crate) fn row_over_run(surface: &mut [u8], k: usize, n: usize, row: &[u8], from: usize)
     requires there { 4 * (k + n) ≤ length surface.old }
     requires given { 4 * (from + n) ≤ length row.now }
     requires premultiplied { ArePremultiplied row.now }

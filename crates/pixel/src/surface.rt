@@ -2,13 +2,14 @@
 
 ghost use Rattle.std.specs.Prelude.{◌≡◌, ◌+◌, ◌-◌, ◌*◌, ◌<◌, ◌≤◌, ◌^◌, length};
 ghost use Rattle.pixel.specs.Colours.{blend};
-ghost use Rattle.pixel.specs.Rows.{pixel, ArePremultiplied};
+ghost use Rattle.pixel.specs.Rows.{ArePremultiplied};
 ghost use Rattle.pixel.specs.Surfaces.{IsPart, IsInside, EachPixel, within_rows};
 ghost use Rattle.pixel.specs.Views.{pixel_in};
 
 use crate::colour::Colour;
 use crate::four::{four_of, lay_four, lay_one};
-use crate::row::{fill_row, over_row};
+use crate::row::fill_row;
+use crate::rows::row_over_run;
 use crate::view::{Pixels, Size};
 
 /// A rect of the pixels of a surface, counted from the surface's top left corner.
@@ -47,19 +48,6 @@ fn colour_over_part(surface: &mut [u8], k: usize, n: usize, colour: Colour)
         lay_one(surface, k + done, colour);
         done += 1;
     }
-}
-
-// Lays `n` pixels of an image, from its pixel `from` on, over those from pixel `k` on.
-fn image_over_part(surface: &mut [u8], k: usize, n: usize, image: &[u8], from: usize)
-    requires there { 4 * (k + n) ≤ length surface.old }
-    requires given { 4 * (from + n) ≤ length image.now }
-    requires premultiplied { ArePremultiplied image.now }
-    ensures { IsPart k n (λ j below. blend below (pixel image.now (from + j))) surface.old surface.new }
-{
-    over_row(
-        &mut surface[4 * k..4 * (k + n)],
-        &image[4 * from..4 * (from + n)],
-    );
 }
 
 /// Gives each pixel of an area of a surface of this size one colour.
@@ -111,6 +99,6 @@ pub fn image_over_area(
     for row in 0..at.h {
         let place = size.place_of(at.x, at.y + row, at.w);
         let from = image.size().place_of(from_x, from_y + row, at.w);
-        image_over_part(surface, place, at.w, pixels, from);
+        row_over_run(surface, place, at.w, pixels, from);
     }
 }

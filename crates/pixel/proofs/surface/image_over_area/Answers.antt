@@ -18,13 +18,13 @@ loop-row-preserved c =
     let there =
     part_like c.place_of-place.result at.w (λ j below. blend below (pixel bytes (c.place_of-from.result + j)))
     (λ j below. blend below (pixel bytes ((at.y + row - at.y + c.args.from_y) * wide + (at.x + j - at.x + c.args.from_x))))
-    c.loop-row.surface c.image_over_part.new.surface (rw (c.bytes-pixels.ensures.value) at c.image_over_part.ensures)
+    c.loop-row.surface c.row_over_run.new.surface (rw (c.bytes-pixels.ensures.value) at c.row_over_run.ensures)
     (λ j below lt. ap (λ (k : ℕ). blend below (pixel bytes k))
     (image_place at.x at.y wide c.args.from_x c.args.from_y row j c.place_of-from.result from)) in
-    let part = subst (λ (k : ℕ). IsPart k at.w (λ j below. blend below (pixel bytes ((at.y + row - at.y + c.args.from_y) * wide + (at.x + j - at.x + c.args.from_x)))) c.loop-row.surface c.image_over_part.new.surface) c.place_of-place.ensures.value there in
+    let part = subst (λ (k : ℕ). IsPart k at.w (λ j below. blend below (pixel bytes ((at.y + row - at.y + c.args.from_y) * wide + (at.x + j - at.x + c.args.from_x)))) c.loop-row.surface c.row_over_run.new.surface) c.place_of-place.ensures.value there in
     record {
       pixels =
-          row_step c.args.size.width c.args.size.height at row (λ x y below. blend below (pixel_in c.args.image.now (x - at.x + c.args.from_x) (y - at.y + c.args.from_y))) c.args.surface.now c.loop-row.surface c.image_over_part.new.surface
+          row_step c.args.size.width c.args.size.height at row (λ x y below. blend below (pixel_in c.args.image.now (x - at.x + c.args.from_x) (y - at.y + c.args.from_y))) c.args.surface.now c.loop-row.surface c.row_over_run.new.surface
           c.requires.inside (omega arith) c.loop-row.invariant.pixels part;
-      premultiplied = λ old. c.image_over_part.ensures.premultiplied (c.loop-row.invariant.premultiplied old);
+      premultiplied = λ old. c.row_over_run.ensures.premultiplied (c.loop-row.invariant.premultiplied old);
     }
