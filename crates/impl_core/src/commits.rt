@@ -94,7 +94,7 @@ impl Core {
     }
 
     /// Commits the main frame that is ready, if it may be committed now, and answers whether it was. An
-    /// error means out of memory, and nothing was entered.
+    /// error means out of memory: nothing was entered, and the call may be made again.
     pub fn commit(&mut self) -> Result<bool, AllocError>
         ensures plays { IfOk result (λ played. Plays self.old kind.Commit 0 self.new played) }
         ensures err { OnErr result (self.new ≡ self.old) }

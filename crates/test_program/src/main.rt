@@ -20,7 +20,7 @@
 //! | `change`, `change hex` | `OLD => NEW`: a part of the input, which stands there once, becomes another |
 //! | `cut` | only the given number of bytes of the input are given; `0..515` is one run for each number below 515 |
 //! | `step` | how many bytes one read gives at most; 4096 if it is left out |
-//! | `room`, `reads fail`, `puts fail` | how many bytes the sink takes; which read or put fails. `0..515` is one run for each number below 515 |
+//! | `room`, `reads fail`, `puts fail` | how many bytes the sink takes; which read or put fails, counted from 0. `0..515` is one run for each number below 515 |
 //! | `notes room` | how many bytes the notes take |
 //! | `gate` | which workers come to the gate, between a tile's start and its end: `pair` if the first two wait there for each other and then for the sink, or `LAYER COLUMN ROW`, those of this tile, which go on at once |
 //! | `sink waits` | `COUNT LINE`: once it holds the line, the sink waits until the given number of workers have come to the gate; a case whose wait is given up is wrong |
