@@ -78,9 +78,15 @@ def says_something(line):
 
 
 def own_titles(groups):
-    """The titles of test_program's own form."""
-    found = (OWN_TITLE.match(line) for group in groups for line in group.lines)
-    return [it["case"] or it["history"] or it["change"] or "" for it in found if it]
+    """The titles of test_program's own form. A history runs by its own title, with all lines below it."""
+    titles, below_history = [], False
+    for found in filter(None, (OWN_TITLE.match(line) for group in groups for line in group.lines)):
+        if found["change"] is None:
+            below_history = found["history"] is not None
+        elif below_history:
+            continue
+        titles.append(found["case"] or found["history"] or found["change"] or "")
+    return titles
 
 
 def faults(crate, text, known):
