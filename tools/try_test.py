@@ -61,6 +61,8 @@ WRONG = [
 # Words for test.py, the status, and a line that it says.
 CALLS = [
     (["tile"], 0, r"test_rows: \d+ of \d+ titles"),
+    # These words stand below histories alone.
+    (["one left out"], 1, "FAILED no title has one left out"),
     (["tile"], 0, r"test_program: \d+ of its titles"),
     (["scroll"], 0, r"test_rows: \d+ of \d+ titles"),
     (["no such word"], 1, "FAILED no title has no such word"),
