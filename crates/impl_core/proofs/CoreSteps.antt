@@ -10,7 +10,6 @@ use Rattle.model_history.specs.declared.event.Event.{Event}
 use Rattle.model_history.specs.declared.event.Event.TheVariants as event
 use Rattle.model_history.specs.declared.history.Entry.{Entry}
 use Rattle.model_history.specs.Scripts.{ScriptModel}
-use Rattle.model_history.specs.Commits.{CommitModel}
 use Rattle.model_history.specs.EventFields.{kind_of}
 use Rattle.model_history.specs.Frames.{pulls_of}
 use Rattle.model_history.specs.Tiles.{Tree, active_tree, live_keys, made_so_far, ready, required, visible_in}
@@ -25,9 +24,11 @@ use Rattle.impl_tiles.specs.Managers.{Managed, Manages}
 use Rattle.impl_host.specs.Hosts.{ImplHostModel, Hosts}
 use Rattle.impl_core.specs.declared.drawn.Drawn.{Drawn}
 use Rattle.impl_core.specs.declared.drawn.Drawn.TheVariants as drawn
+use Rattle.impl_core.specs.declared.handed.Handed.{Handed}
 use Rattle.impl_core.specs.declared.needs.Needs.{Needs}
 use Rattle.impl_core.specs.inner.Needed.{KnowsNeeds, no_needs, after_evicting}
-use Rattle.impl_core.specs.inner.Cores.{Kept, IsPreparedFor, ShowsPage, IfKept, IsDrawnAt, IsCore}
+use Rattle.impl_core.specs.Handovers.{IsPreparedFor}
+use Rattle.impl_core.specs.inner.Cores.{Kept, ShowsPage, IfKept, IsDrawnAt, IsCore}
 use Rattle.impl_core.proofs.NeedSteps.{forgotten, same_needs, fewer_ready, one_more_ready}
 
 -- a drawing that is kept, where the active tree and the ready keys are the same after another past
@@ -91,13 +92,13 @@ send_core s n h a k ms told kept host legal core hosts holds is = record {
 }
 
 -- a core whose frame is ready
-pub ready_core : (s : ScriptModel) (n : ℕ) (h : List Entry) (k : ℕ) (c : CommitModel) (kept : Kept) → Legal s n (entry 1 (event.Ready k) ∷ h) → IsCore s h kept → IsPreparedFor s (pulls_of h) k c
-    → IsCore s (entry 1 (event.Ready k) ∷ h) (record { host = kept.host; tiles = kept.tiles; told = kept.told; prepared = Some c; required = kept.required; drawn = kept.drawn })
-ready_core s n h k c kept legal core is = record {
+pub ready_core : (s : ScriptModel) (n : ℕ) (h : List Entry) (k : ℕ) (d : Handed) (kept : Kept) → Legal s n (entry 1 (event.Ready k) ∷ h) → IsCore s h kept → IsPreparedFor s (pulls_of h) k d.tree.value d.changes
+    → IsCore s (entry 1 (event.Ready k) ∷ h) (record { host = kept.host; tiles = kept.tiles; told = kept.told; prepared = Some d; required = kept.required; drawn = kept.drawn })
+ready_core s n h k d kept legal core is = record {
   host = core.host;
   tiles = core.tiles;
   told = λ t j e. absurd cc;
-  prepared = λ t j e. let last = (at_ready s n h 1 k legal.1).last in let same : k ≡ j = cc in subst (λ i. IsPreparedFor s (pulls_of h) i c) same is;
+  prepared = λ t j e. let last = (at_ready s n h 1 k legal.1).last in let same : k ≡ j = cc in subst (λ i. IsPreparedFor s (pulls_of h) i d.tree.value d.changes) same is;
   required = core.required;
   drawn = core.drawn;
 }

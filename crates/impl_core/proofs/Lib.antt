@@ -3,6 +3,7 @@ pub mod AllJobs
 pub mod CommitSteps
 pub mod CoreSteps
 pub mod DrawnImages
+pub mod GrownCores
 pub mod HeldTiles
 pub mod InputEvents
 pub mod LastEntry

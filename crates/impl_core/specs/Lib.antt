@@ -1,4 +1,5 @@
 pub mod Drawings
 pub mod Origins
+pub mod Handovers
 pub mod Replies
 pub mod inner

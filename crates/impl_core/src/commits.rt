@@ -15,20 +15,22 @@ ghost use Rattle.impl_core.specs.inner.Pushes.{PushesNow};
 
 use crate::core_state::Core;
 use crate::drawn::Drawn;
+use crate::handed::Handed;
 use impl_host::ImplHost;
 use impl_scroll::Standing;
-use model_history::{Commit, Event, Script};
+use model_history::{Event, Script};
 use model_states::Kind;
 use std::alloc::{AllocError, Global};
+use std::sync::Arc;
 
-// Pushes the commit that is prepared, whose page is shared, and answers how the scrollers stood before. An error
+// Pushes what is prepared, whose page is shared once more, and answers how the scrollers stood before. An error
 // means out of memory, and the host is as it was.
 fn push_prepared(
     alloc: Global,
     host: &mut ImplHost,
     script: &Script,
     frame: u32,
-    prepared: &Option<Commit>,
+    prepared: &Option<Handed>,
 ) -> Result<Standing, AllocError>
     requires { PushesNow script.now host.old frame prepared.now }
     ensures hosts { OnOk result ((workers : ℕ) (h : List Entry) (actor : ℕ) → IsAccepted script.now → Legal script.now workers (commit actor frame ∷ h) → Hosts script.now h host.old → IsPrepared script.now (pulls_of h) frame prepared.now → Hosts script.now (commit actor frame ∷ h) host.new) }
@@ -37,16 +39,16 @@ fn push_prepared(
     ensures pending { OnOk result (IsSome host.new.trees.pending) }
     ensures err { OnErr result (host.new ≡ host.old) }
 {
-    let Some(commit) = prepared else {
+    let Some(handed) = prepared else {
         unreachable!()
     };
-    let tree = commit.shared_tree()?;
-    let changes = commit.changes().copy()?;
+    let tree = Arc::try_clone(&handed.tree)?;
+    let changes = handed.changes.copy()?;
     host.push(alloc, tree, changes, frame, script.commands(frame))
 }
 
-// Lets go of a commit that was entered.
-fn drop_commit(prepared: &mut Option<Commit>)
+// Lets go of what was prepared, once its commit is entered.
+fn drop_prepared(prepared: &mut Option<Handed>)
     ensures { prepared.new ≡ None }
 {
     *prepared = None;
@@ -80,7 +82,7 @@ impl Core {
         )?;
         match self.log.enter(0, Event::Commit { frame }) {
             Ok(()) => {
-                drop_commit(&mut self.prepared);
+                drop_prepared(&mut self.prepared);
                 self.tiles.forget();
                 self.required.forget();
                 self.drawn = Drawn::Nothing;

@@ -18,13 +18,14 @@ ghost use Rattle.impl_core.specs.Replies as replies;
 ghost use Rattle.impl_core.specs.Replies.{next_key, told_frame, is_played};
 
 use crate::drawn::Drawn;
+use crate::handed::Handed;
 use crate::needs::Needs;
 use crate::outlooks::{look, look_for_next};
 use geom::TileKey;
 use impl_host::ImplHost;
 use impl_log::{KeptHistory, Log, Progress};
 use impl_tiles::TileManager;
-use model_history::{Commit, Event, Moves, Script};
+use model_history::{Event, Moves, Script};
 use model_states::{MainState, Synced};
 use std::alloc::{AllocError, Global};
 use std::marker::Model;
@@ -39,8 +40,8 @@ pub struct Core {
     pub(crate) tiles: TileManager,
     // The pulls of the frame in flight, while it is sent.
     pub(crate) told: Moves,
-    // the commit of the frame in flight, once it is ready and until it is entered
-    pub(crate) prepared: Option<Commit>,
+    // What the main side handed over for the frame in flight, once that is ready and until its commit is entered.
+    pub(crate) prepared: Option<Handed>,
     // The visible keys of the pending tree, which an activation needs.
     pub(crate) required: Needs,
     // What was drawn since the picture may have changed.

@@ -5,10 +5,21 @@ ghost use Rattle.model_states.specs.declared.kind.Kind.TheVariants as kind;
 ghost use Rattle.model_history.specs.declared.event.Event.TheVariants as event;
 ghost use Rattle.model_history.specs.Frames.{pulls_of, pulls_in};
 ghost use Rattle.impl_log.specs.Runs.{past, now, with_entry};
+ghost use Rattle.impl_core.specs.Handovers.{IsPreparedFor};
 
 use crate::core_state::Core;
+use crate::handed::Handed;
 use model_history::{Commit, Event};
 use std::alloc::AllocError;
+
+// What a commit hands over.
+fn handed_of(commit: Commit) -> Handed
+    ensures tree { result.tree.value ≡ commit.tree }
+    ensures changes { result.changes ≡ commit.changes }
+{
+    let (tree, changes) = commit.into_page();
+    Handed { tree, changes }
+}
 
 impl Core {
     /// The main side is ready with the commit of the frame in flight, which it made of this script with the
@@ -26,10 +37,30 @@ impl Core {
         let frame = commit.frame();
         match self.log.enter(1, Event::Ready { frame }) {
             Ok(()) => {
-                self.prepared = Some(commit);
+                self.prepared = Some(handed_of(commit));
                 Ok(())
             }
             Err(refused) => Err((refused, commit)),
+        }
+    }
+
+    /// The main side is ready with the frame in flight, and hands over the page after it and what it changed. This is
+    /// [`Core::ready`] for a main side that keeps no commits. An error means out of memory: nothing was entered, and
+    /// what was handed over comes back.
+    pub fn ready_with(&mut self, frame: u32, handed: Handed) -> Result<(), (AllocError, Handed)>
+        requires is_now { now self.old kind.Ready 1 ≡ Some (event.Ready frame) }
+        requires made { IsPreparedFor self.old.script (pulls_of (past self.old)) frame handed.tree.value handed.changes }
+        ensures ok { OnOk result (self.new ≡ with_entry self.old 1 (event.Ready frame)) }
+        ensures err { OnErr result (self.new ≡ self.old) }
+        ensures given_back { IfErr result (λ refused. refused.1 ≡ handed) }
+    {
+        self.log.is_legal();
+        match self.log.enter(1, Event::Ready { frame }) {
+            Ok(()) => {
+                self.prepared = Some(handed);
+                Ok(())
+            }
+            Err(refused) => Err((refused, handed)),
         }
     }
 }

@@ -3,3 +3,4 @@ pub mod ShortRuns
 pub mod ProgressSteps
 pub mod Forgetting
 pub mod LogSteps
+pub mod GrownLogs

@@ -18,6 +18,10 @@ pub record Run : Type 0 where
 abbrev pub new_run : ScriptModel → ℕ → Run
 new_run s n = record { script = s; workers = n; entries = [] }
 
+-- the run of another script, with the same entries
+abbrev pub with_script : Run → ScriptModel → Run
+with_script r s = record { script = s; workers = r.workers; entries = r.entries }
+
 -- its past, the newest entry first
 abbrev pub past : Run → List Entry
 past r = reverse r.entries

@@ -8,8 +8,12 @@
 //!
 //! A log always has room for the end of each tile in flight and for a stop, so that these take no memory. It may
 //! forget its oldest entries ([`KeptHistory`]): clauses still see them.
+//!
+//! A script may be told while it is played: a log takes an input, a main frame and the commands of a main frame that
+//! waits for its answer, and the history is legal for the script that this makes.
 #![tactic(auto)]
 
+mod growth;
 mod input_places;
 mod kept_history;
 mod kinds;

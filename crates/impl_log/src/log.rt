@@ -36,7 +36,7 @@ const MANY_KEYS: usize = 65_536;
 ///
 /// Contracts see the run: the script, the number of workers and the entries, forgotten ones too.
 pub struct Log {
-    script: Arc<Script>,
+    pub(crate) script: Arc<Script>,
     workers: u32,
     history: KeptHistory,
     progress: Progress,

@@ -16,12 +16,9 @@ use Rattle.tile_visible.specs.Visible.{viewport}
 use Rattle.viz_scene.specs.Pixels.{scene_pixel}
 use Rattle.model_history.specs.declared.history.Entry.{Entry}
 use Rattle.model_history.specs.Scripts.{ScriptModel}
-use Rattle.model_history.specs.Commits.{CommitModel}
 use Rattle.model_history.specs.EventFields.{sends}
 use Rattle.model_history.specs.Scans.{newest}
-use Rattle.model_history.specs.Frames.{page, pulls_of, active, pending, active_page}
-use Rattle.model_history.specs.Stamps.{frame_changes}
-use Rattle.model_history.specs.SameChanges.{SameChanges}
+use Rattle.model_history.specs.Frames.{pulls_of, active, pending, active_page}
 use Rattle.model_history.specs.Scrolls.{active_offsets, pending_offsets}
 use Rattle.model_history.specs.Legal.{sched}
 use Rattle.model_history.specs.Tiles.{in_flight, ready, pinned, required, missing_visible}
@@ -29,6 +26,8 @@ use Rattle.model_history.specs.Ranking.{choice}
 use Rattle.model_history.specs.Values.{values}
 use Rattle.impl_tiles.specs.Managers.{Managed, HoldsTiles, live_ranks}
 use Rattle.impl_core.specs.declared.drawing.Drawing.{Drawing}
+use Rattle.impl_core.specs.declared.handed.Handed.{Handed}
+use Rattle.impl_core.specs.Handovers.{IsPreparedFor}
 use Rattle.impl_host.specs.Hosts.{ImplHostModel, HostsAt}
 use Rattle.impl_core.specs.declared.drawn.Drawn.{Drawn}
 use Rattle.impl_core.specs.declared.needs.Needs.{Needs}
@@ -40,19 +39,14 @@ pub record Kept : Type 0 where
   pub host : ImplHostModel
   pub tiles : Managed
   pub told : List Move
-  pub prepared : Option CommitModel
+  pub prepared : Option Handed
   pub required : Needs
   pub drawn : Drawn
 
--- the page after a frame with these pulls, and what the frame changed
-pub record IsPreparedFor (s : ScriptModel) (ps : ℕ → List Move) (k : ℕ) (c : CommitModel) : Type 0 where
-  pub page : c.tree ≡ page s ps (suc k)
-  pub changes : SameChanges c.changes (frame_changes s ps k)
-
--- the same of a commit that may be missing
-abbrev pub IsPrepared : ScriptModel → (ℕ → List Move) → ℕ → Option CommitModel → Type 0
+-- the page after a frame with these pulls, and what the frame changed, were handed over
+abbrev pub IsPrepared : ScriptModel → (ℕ → List Move) → ℕ → Option Handed → Type 0
 IsPrepared s ps k None = ⊥
-IsPrepared s ps k (Some c) = IsPreparedFor s ps k c
+IsPrepared s ps k (Some d) = IsPreparedFor s ps k d.tree.value d.changes
 
 -- the drawing shows a page at these offsets over the background of the script, with the missing tiles that it lists, which are these
 pub record ShowsPage (s : ScriptModel) (p : Page) (at : ℕ → Point) (missing : List TileKey) (d : Drawing) : Type 0 where

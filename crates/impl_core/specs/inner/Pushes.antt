@@ -2,16 +2,16 @@
 use Rattle.std.specs.Prelude.{ℕ, List, ◌∷◌, Option}
 use Rattle.model_history.specs.declared.history.Entry.{Entry}
 use Rattle.model_history.specs.Scripts.{ScriptModel}
-use Rattle.model_history.specs.Commits.{CommitModel}
 use Rattle.model_history.specs.Accepted.{IsAccepted}
 use Rattle.model_history.specs.Frames.{pulls_of}
 use Rattle.model_history.specs.Legal.{Legal}
 use Rattle.model_steps.specs.Events.{commit}
 use Rattle.impl_host.specs.Hosts.{ImplHostModel, Hosts}
+use Rattle.impl_core.specs.declared.handed.Handed.{Handed}
 use Rattle.impl_core.specs.inner.Cores.{IsPrepared}
 
 -- the host represents a run in which the commit of the frame may come now, and this is the commit
-pub record PushesNow (s : ScriptModel) (host : ImplHostModel) (k : ℕ) (prepared : Option CommitModel) : Type 0 where
+pub record PushesNow (s : ScriptModel) (host : ImplHostModel) (k : ℕ) (prepared : Option Handed) : Type 0 where
   pub workers : ℕ
   pub past : List Entry
   pub actor : ℕ

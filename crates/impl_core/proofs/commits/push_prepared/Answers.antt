@@ -17,11 +17,11 @@ pub returns-clause-hosts : goal.returns-clause-hosts
 returns-clause-hosts c =
     on_ok c.push.result
     (λ hosts workers h actor accepted legal before prepared.
-    let is = is_there c.args.script.now (pulls_of h) c.args.frame c.args.prepared.now c.in-Some.commit prepared c.in-Some.is in
+    let is = is_there c.args.script.now (pulls_of h) c.args.frame c.args.prepared.now c.in-Some.handed prepared c.in-Some.is in
     hosts c.args.script.now workers h actor accepted legal before
     (record {
       page_is = c.in_ok-tree.ensures ∙ is.page;
-      changes = subst (λ (d : Changed). SameChanges d (frame_changes c.args.script.now (pulls_of h) c.args.frame)) (sym (c.in_ok-changes.ensures ∙ c.changes.ensures)) is.changes;
+      changes = subst (λ (d : Changed). SameChanges d (frame_changes c.args.script.now (pulls_of h) c.args.frame)) (sym c.in_ok-changes.ensures) is.changes;
       commands_are = c.commands.ensures;
     }))
     c.push.ensures.hosts

@@ -50,8 +50,8 @@ invariant_of-self-in-Ok-1 c =
     subst (λ (z : ScriptModel). (workers : ℕ) (past : List Entry) (actor : ℕ) → IsAccepted z → Legal z workers (commit actor k ∷ past) → Hosts z past kept.host → IsPrepared z (pulls_of past) k kept.prepared → Hosts z (commit actor k ∷ past) c.push_prepared.new.host)
     same c.in_ok-before.ensures.hosts r.workers h 0 c.is_legal.ensures.accepted is.legal c.self.invariant.host is.is_prepared in
     let holds : Manages r.script (commit 0 k ∷ h) c.forget.new.self = c.forget.ensures r.script h (commit 0 k ∷ h) c.self.invariant.tiles is.same in
-    one_more (record { host = c.push_prepared.new.host; tiles = c.forget.new.self; told = kept.told; prepared = c.drop_commit.new.prepared; required = c.forget-in-Ok.new.self; drawn = drawn.Nothing }) r c.enter.new.self 0 (event.Commit k) c.in-Ok.ensures.ok
-    (commit_core r.script h kept c.self.invariant c.push_prepared.new.host c.forget.new.self c.forget-in-Ok.new.self drawn.Nothing c.drop_commit.new.prepared k pushed holds (forgotten c.forget-in-Ok.new.self (required r.script (entry 0 (event.Commit k) ∷ h)) (ready r.script (entry 0 (event.Commit k) ∷ h)) c.forget-in-Ok.ensures) tt)
+    one_more (record { host = c.push_prepared.new.host; tiles = c.forget.new.self; told = kept.told; prepared = c.drop_prepared.new.prepared; required = c.forget-in-Ok.new.self; drawn = drawn.Nothing }) r c.enter.new.self 0 (event.Commit k) c.in-Ok.ensures.ok
+    (commit_core r.script h kept c.self.invariant c.push_prepared.new.host c.forget.new.self c.forget-in-Ok.new.self drawn.Nothing c.drop_prepared.new.prepared k pushed holds (forgotten c.forget-in-Ok.new.self (required r.script (entry 0 (event.Commit k) ∷ h)) (ready r.script (entry 0 (event.Commit k) ∷ h)) c.forget-in-Ok.ensures) tt)
 
 pub invariant_of-self-in-Err : goal.invariant_of-self-in-Err
 invariant_of-self-in-Err c =

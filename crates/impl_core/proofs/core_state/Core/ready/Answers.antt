@@ -1,4 +1,4 @@
--- The commit that is kept is that of the frame in flight.
+-- What the commit hands over is what the frame in flight makes.
 use Rattle.std.proofs.Common.{◌≡◌, ℕ, Some, refl, sym, ◌∙◌, ap, subst, arith}
 use Rattle.model_states.specs.declared.kind.Kind.TheVariants as kind
 use Rattle.model_history.specs.declared.event.Event.TheVariants as event
@@ -15,7 +15,7 @@ invariant_of-self c =
     let k : ℕ = c.args.commit.frame in
     let may_come : now r kind.Ready 1 ≡ Some (event.Ready k) = subst (λ (z : Run). now z kind.Ready 1 ≡ Some (event.Ready k)) (sym c.self.view_is) c.requires.is_now in
     let entered : c.enter.new.self ≡ with_entry r 1 (event.Ready k) = subst (λ (j : ℕ). c.enter.new.self ≡ with_entry r 1 (event.Ready j)) c.frame-frame.ensures c.in-Ok.ensures.ok in
-    one_more (record { host = c.self.inside.host; tiles = c.self.inside.tiles; told = c.self.inside.told; prepared = Some c.args.commit; required = c.self.inside.required; drawn = c.self.inside.drawn }) r c.enter.new.self 1 (event.Ready k) entered
-    (ready_core r.script r.workers (past r) k c.args.commit (record { host = c.self.inside.host; tiles = c.self.inside.tiles; told = c.self.inside.told; prepared = c.self.inside.prepared; required = c.self.inside.required; drawn = c.self.inside.drawn }) (comes_next r.script r.workers (past r) 1 (event.Ready k) c.is_legal.ensures.legal may_come refl (omega arith)) c.self.invariant
-    (prepared_for r.script (pulls_of (past r)) c.args.commit c.is_commit.ensures.commit (c.requires.script ∙ sym (ap (λ (z : Run). z.script) c.self.view_is))
+    one_more (record { host = c.self.inside.host; tiles = c.self.inside.tiles; told = c.self.inside.told; prepared = Some c.handed_of.result; required = c.self.inside.required; drawn = c.self.inside.drawn }) r c.enter.new.self 1 (event.Ready k) entered
+    (ready_core r.script r.workers (past r) k c.handed_of.result (record { host = c.self.inside.host; tiles = c.self.inside.tiles; told = c.self.inside.told; prepared = c.self.inside.prepared; required = c.self.inside.required; drawn = c.self.inside.drawn }) (comes_next r.script r.workers (past r) 1 (event.Ready k) c.is_legal.ensures.legal may_come refl (omega arith)) c.self.invariant
+    (prepared_for r.script (pulls_of (past r)) c.args.commit c.handed_of.result c.handed_of.ensures.tree c.handed_of.ensures.changes c.is_commit.ensures.commit (c.requires.script ∙ sym (ap (λ (z : Run). z.script) c.self.view_is))
     (λ j l. c.requires.sends j l ∙ sym (ap (λ (z : Run). pulls_of (past z) j) c.self.view_is))))

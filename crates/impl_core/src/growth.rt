@@ -1,0 +1,57 @@
+//! The script grows while it is played.
+
+ghost use Rattle.std.specs.Prelude.{◌≡◌, true, false, OnOk, OnErr};
+ghost use Rattle.model_states.specs.Kinds.{is_sent};
+ghost use Rattle.model_history.specs.Accepted.{IsAccepted};
+ghost use Rattle.model_history.specs.Growth.{with_input, with_main_frame, with_commands, has_looked_ahead};
+ghost use Rattle.model_history.specs.Legal.{sched};
+ghost use Rattle.model_history.specs.Ranges.{are_short};
+ghost use Rattle.impl_log.specs.Runs.{past, with_script};
+
+use crate::core_state::Core;
+use model_history::Input;
+use page_layers::Command;
+use std::alloc::{AllocError, Global};
+
+impl Core {
+    /// Adds an input to the script, after the others. The history must hold no end and no impl frame for a main
+    /// frame alone, since these come only if something is not said. An error means out of memory, or that somebody
+    /// else has the script too; the run is as it was.
+    pub fn add_input(&mut self, input: Input) -> Result<(), AllocError>
+        requires accepted { IsAccepted (with_input self.old.script input) }
+        requires looked { has_looked_ahead (past self.old) ≡ false }
+        ensures ok { OnOk result (self.new ≡ with_script self.old (with_input self.old.script input)) }
+        ensures err { OnErr result (self.new ≡ self.old) }
+    {
+        self.log.is_legal();
+        self.log.add_input(input)
+    }
+
+    /// Adds a main frame to the script, after the others, which has no commands yet. The history must hold no end
+    /// and no impl frame for a main frame alone. An error means out of memory, or that somebody else has the script
+    /// too; the run is as it was.
+    pub fn add_frame(&mut self, alloc: Global) -> Result<(), AllocError>
+        requires accepted { IsAccepted (with_main_frame self.old.script) }
+        requires looked { has_looked_ahead (past self.old) ≡ false }
+        ensures ok { OnOk result (self.new ≡ with_script self.old (with_main_frame self.old.script)) }
+        ensures err { OnErr result (self.new ≡ self.old) }
+    {
+        self.log.is_legal();
+        self.log.add_frame(alloc)
+    }
+
+    /// Gives the last main frame of the script these commands in place of its own, while a main frame is sent and
+    /// waits for its answer. The history must hold no end and no impl frame for a main frame alone. An error means
+    /// that somebody else has the script too; the run is as it was.
+    pub fn end_frame(&mut self, commands: Vec<Command>) -> Result<(), AllocError>
+        requires accepted { IsAccepted (with_commands self.old.script commands.items) }
+        requires short { are_short (with_commands self.old.script commands.items).main ≡ true }
+        requires looked { has_looked_ahead (past self.old) ≡ false }
+        requires sent { is_sent (sched (past self.old)).main_state ≡ true }
+        ensures ok { OnOk result (self.new ≡ with_script self.old (with_commands self.old.script commands.items)) }
+        ensures err { OnErr result (self.new ≡ self.old) }
+    {
+        self.log.is_legal();
+        self.log.end_frame(commands)
+    }
+}
