@@ -32,7 +32,7 @@ pub struct Batch {
     alloc: Global,
     shots: Vec<Shot>,
     lines: Vec<u8>,
-    /// How many bytes the pieces have, painted.
+    /// How many bytes the pieces are counted with.
     bytes: u64,
     /// How many the last of them has.
     last: u64,
@@ -48,14 +48,6 @@ impl Drop for Batch {
             bytes: _,
             last: _,
         } = self;
-    }
-}
-
-// How many bytes the pixels of a scene's image have: red, green and blue each.
-fn picture_bytes(scene: &Option<Scene>) -> u64 {
-    match scene {
-        Some(scene) => 3 * (scene.w() as u64 * scene.h() as u64),
-        None => 0,
     }
 }
 
@@ -104,11 +96,12 @@ impl Batch {
     fn push_shot(&mut self, scene: Option<Scene>) -> Result<(), AllocError>
         ensures { OnOk result (held_of self.new ≡ held_of self.old ++ image_if scene) }
     {
-        self.last = picture_bytes(&scene).saturating_add(self.lines.len() as u64);
-        self.bytes = self.bytes.saturating_add(self.last);
         let none = Vec::new(self.alloc);
         let lines = mem::replace(&mut self.lines, none);
-        self.shots.push(Shot { lines, scene })?;
+        let shot = Shot::new(lines, scene);
+        self.last = shot.bytes();
+        self.bytes = self.bytes.saturating_add(self.last);
+        self.shots.push(shot)?;
         Ok(())
     }
 

@@ -37,6 +37,7 @@ fn try_rings<R: Threads + Wait + Sync>(
     rings::five_pieces_in_order(rt, alloc, cases)?;
     rings::served_before_the_end(rt, alloc, cases)?;
     rings::owned_pieces_in_their_turn(rt, alloc, cases)?;
+    rings::refused_after_the_presenter(rt, alloc, cases)?;
     rings::thousand_pieces(rt, alloc, cases)?;
     rings::sink_fails_at_any_piece(rt, alloc, cases)?;
     slow_sink::slow_sink_holds_up(rt, alloc, cases)

@@ -178,6 +178,25 @@ pub fn owned_pieces_in_their_turn<R: Threads + Wait + Sync>(
     put
 }
 
+/// What is put after the presenter was refused a put is refused.
+pub fn refused_after_the_presenter<R: Threads + Wait + Sync>(
+    rt: &R,
+    alloc: Global,
+    cases: &mut Cases,
+) -> Result<(), LineFault> {
+    cases.begin("refused later");
+    let (mut sink, mut presenter) = ring(alloc)?;
+    cases.same("before", &sink.put(&[1]), &Ok(()));
+    sink.end();
+    let mut out = MemSink::new(alloc, 0, Vec::new(alloc));
+    let mut painters: Painters<Refuser> = Painters::new(alloc, 1);
+    let served = presenter.serve(rt, &mut painters, &mut out);
+    cases.same("the sink fails", &served, &Err(PutFault::Failed));
+    let later = sink.put(&[2]);
+    cases.same("later", &later, &Err(PutFault::Memory(AllocError)));
+    Ok(())
+}
+
 /// A thousand pieces go through.
 pub fn thousand_pieces<R: Threads + Wait + Sync>(
     rt: &R,

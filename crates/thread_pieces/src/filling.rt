@@ -10,7 +10,6 @@ ghost use Rattle.thread_pieces.specs.Ring.{HasMovedAll, HasMovedKept, SameSink, 
 
 use crate::ends::{Label, RingSink};
 use crate::limits::GATHERED_LINES;
-use crate::shared::byte_count;
 use crate::{SceneSink, Shot};
 use byte_io::{PutFault, Sink};
 use std::alloc::AllocError;
@@ -58,7 +57,7 @@ impl RingSink {
         ensures left { (self.new.kept ≡ self.old.kept) × (self.new.lines ≡ self.old.lines) }
         ensures refused { self.new.refused ≡ self.old.refused }
     {
-        self.shared.add(byte_count(&piece));
+        self.shared.add(piece.bytes());
         self.producer.push_reserved(piece);
         self.shared.ring();
     }
@@ -85,7 +84,7 @@ impl RingSink {
             return;
         }
         let lines = self.take_lines();
-        self.push(Shot { lines, scene: None });
+        self.push(Shot::new(lines, None));
     }
 
     // Moves all on, as far as there is a place.
@@ -121,7 +120,7 @@ impl RingSink {
         ensures cause { PutCause 0 0 self.old.refused self.new.refused result }
         ensures answers { NotFailed result }
     {
-        let bytes = byte_count(&piece);
+        let bytes = piece.bytes();
         if self.kept.is_empty() && !self.producer.is_full() {
             self.push(piece);
             return Ok(());
@@ -206,7 +205,9 @@ impl Sink for RingSink {
 
     ghost place = { ring_filled };
 
-    /// Never waits and never answers `Failed`. The bytes are gathered; if they are many, they become a piece.
+    /// Never waits and never answers `Failed`. The bytes are gathered; if they are many, they become a piece. Once the
+    /// presenter was refused a put, nothing will take them: they are refused as if there were no memory for them, so
+    /// that the one who puts can stop. Why the presenter was refused is what `serve` answers.
     fn put(&mut self, piece: &[u8]) -> Result<(), PutFault>
         ensures bytes { PutAppends (Some (whole self.old)) (Some (whole self.new)) piece.now result }
         ensures grows { 0 ≤ 0 }
@@ -215,6 +216,9 @@ impl Sink for RingSink {
         ensures place { SameSink self.old self.new }
         ensures answers { NotFailed result }
     {
+        if self.shared.is_refused() {
+            return Err(self.refuse(AllocError));
+        }
         match self.lines.extend_from_slice(piece) {
             Ok(()) => {
                 if self.lines.len() >= GATHERED_LINES {
@@ -240,10 +244,7 @@ impl SceneSink for RingSink {
     {
         self.move_on();
         let lines = self.take_lines();
-        self.take_in(Shot {
-            lines,
-            scene: Some(scene),
-        })
+        self.take_in(Shot::new(lines, Some(scene)))
     }
 
     /// Moves what was gathered and kept into the ring as far as there is a place.

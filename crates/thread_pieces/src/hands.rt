@@ -130,7 +130,7 @@ impl<P: ScenePainter> Hand<P> {
         ensures { OnOk result (made_of P.rows self.new ≡ made_of P.rows self.old ++ shown shot) }
     {
         self.copy_rows()?;
-        let Shot { lines, scene } = shot;
+        let Shot { lines, scene, .. } = shot;
         self.made.extend_from_slice(&lines)?;
         self.push_image(rt, scene, parts)
     }

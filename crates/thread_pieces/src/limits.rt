@@ -6,5 +6,6 @@ pub const GATHERED_LINES: usize = 64 * 1024;
 /// How many pieces a painter is dealt at a time, at most.
 pub const DEALT_PIECES: usize = 4;
 
-/// How many bytes pieces have, painted, that are held at a time, unless a single piece is larger.
+/// How many bytes ([`Shot::bytes`](crate::Shot::bytes)) the pieces have that are held at a time, unless a single piece
+/// has more.
 pub const HELD_BYTES: u64 = 48 * 1024 * 1024;

@@ -7,7 +7,6 @@ ghost use Rattle.thread_pieces.specs.Answers.{AddsBytes, Blames, Served, Stops, 
 
 use crate::ends::Presenter;
 use crate::limits::{DEALT_PIECES, HELD_BYTES};
-use crate::shared::byte_count;
 use crate::{Painters, ScenePainter, Shot};
 use byte_io::{PutFault, Sink};
 use std::alloc::AllocError;
@@ -65,7 +64,7 @@ impl Presenter {
     {
         match self.consumer.pop() {
             Ok(piece) => {
-                self.taken = self.taken.saturating_add(byte_count(&piece));
+                self.taken = self.taken.saturating_add(piece.bytes());
                 Some(piece)
             }
             Err(_) => None,
@@ -136,7 +135,8 @@ impl Presenter {
 
     /// Takes pieces out of the ring, paints their scenes, several at once if several wait, and puts all into
     /// `out` in order, until it has seen the end mark raised and after that found the ring empty. While there is no
-    /// piece it sleeps. After a refused put it takes the later pieces and drops them, so that nobody waits for it.
+    /// piece it sleeps. After a refused put it takes the later pieces and drops them, so that nobody waits for it, and
+    /// the ring's sink refuses what is put from then on.
     ///
     /// Ok: `out` gained exactly the pieces that were taken, in order. `Failed` comes only if
     /// the count of faults of `out` rose in this call, or stands at its last value; `Memory` if
@@ -167,6 +167,8 @@ impl Presenter {
             let ended = self.shared.is_closed();
             let (any, answer) = self.step(rt, state, most, painters, out);
             state = answer;
+            // Told before the ring of `let_go`, so that the one who puts finds it when it wakes up.
+            self.shared.tell(&state);
             self.let_go();
             if !any {
                 if ended {

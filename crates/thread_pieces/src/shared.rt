@@ -1,6 +1,6 @@
 //! What the two ends of a ring share.
 
-use crate::Shot;
+use byte_io::PutFault;
 use std::alloc::{AllocError, Global};
 use std::sync::atomic::{AtomicBool, AtomicU64, Ordering};
 use std::sync::{Arc, Wait};
@@ -12,19 +12,12 @@ pub(crate) struct Shared {
     /// Rung for the presenter after a piece was pushed, and for the compositor, which puts, after pieces were written.
     /// It is closed as the end mark.
     bell: Arc<Bell, Global>,
-    /// How many bytes the pieces are that were put and not written yet, with an image for each scene.
+    /// How many bytes the pieces are counted with that were put and not written yet.
     waiting: AtomicU64,
     /// Whether the presenter is taking pieces.
     serving: AtomicBool,
-}
-
-/// How many bytes a piece is: its lines, and red, green and blue of each pixel of its scene.
-pub(crate) fn byte_count(shot: &Shot) -> u64 {
-    let image = match &shot.scene {
-        Some(scene) => 3 * (scene.w() as u64 * scene.h() as u64),
-        None => 0,
-    };
-    image.saturating_add(shot.lines.len() as u64)
+    /// Whether the presenter was refused a put, and drops what comes later.
+    refused: AtomicBool,
 }
 
 impl Shared {
@@ -34,6 +27,7 @@ impl Shared {
             bell,
             waiting: AtomicU64::new(0),
             serving: AtomicBool::new(false),
+            refused: AtomicBool::new(false),
         }
     }
 
@@ -73,6 +67,18 @@ impl Shared {
     /// Whether the presenter is taking pieces. If it is not, nobody would make space.
     pub(crate) fn is_serving(&self) -> bool {
         self.serving.load(Ordering::SeqCst)
+    }
+
+    /// The presenter tells what became of the pieces so far. The one who puts reads it after the next ring.
+    pub(crate) fn tell(&self, answer: &Result<(), PutFault>) {
+        if answer.is_err() {
+            self.refused.store(true, Ordering::SeqCst);
+        }
+    }
+
+    /// Whether the presenter was refused a put.
+    pub(crate) fn is_refused(&self) -> bool {
+        self.refused.load(Ordering::SeqCst)
     }
 
     /// Raises the end mark.

@@ -11,6 +11,7 @@
 mod checked_quads;
 mod checked_scene;
 mod empty;
+mod held;
 mod joining;
 mod laws;
 mod quad;
