@@ -17,7 +17,7 @@ use Rattle.model_history.proofs.DueRows.{due_row}
 use Rattle.impl_log.specs.Runs.{Run, past, with_entry, Entered}
 use Rattle.impl_log.proofs.LogSteps.{now_is, past_more}
 use Rattle.impl_core.specs.Origins.{Origin}
-use Rattle.impl_core.specs.Replies.{is_played, is_draw_kind, IsPicture}
+use Rattle.impl_core.specs.Replies.{is_own, is_played, is_draw_kind, IsPicture}
 use Rattle.thread_pieces.specs.Scenes.{scene_image}
 use Rattle.thread_pieces.proofs.Gains.{gains_longer}
 use Rattle.proxy_threads.specs.declared.turned.Turned.{Turned}
@@ -26,14 +26,14 @@ use Rattle.proxy_threads.specs.declared.playing.Played.{Played}
 use Rattle.proxy_threads.specs.declared.playing.Played.TheVariants as played
 use Rattle.proxy_threads.specs.declared.lines.Lines.{Lines}
 use Rattle.proxy_threads.specs.Seats.{Seat, entries_of, pairs, past_of}
-use Rattle.proxy_threads.specs.Causes.{EnteredLast, HasNone, HasWaited}
+use Rattle.proxy_threads.specs.Causes.{EnteredOne, HasNone, HasWaited}
 use Rattle.proxy_threads.specs.Writing.{part, KnowsEnd, HasWritten, Wrote, CompTurn}
 use Rattle.proxy_threads.specs.inner.Holdings.{Steps, Holding}
 use Rattle.proxy_threads.specs.inner.Steps.{Stops, StopsIfFailed, Plays, Gathers, GathersAll, Composes, Answers, answer_for, lines_of, text_for}
-use Rattle.proxy_threads.proofs.Holds.{entries_pairs, past_pairs, pairs_more, drop_front, same_since, mine_kept, entered_last, same_origin}
+use Rattle.proxy_threads.proofs.Holds.{entries_pairs, past_pairs, pairs_more, drop_front, same_since, mine_kept, entered_one, same_origin}
 use Rattle.proxy_threads.proofs.Others.{others_since}
 use Rattle.proxy_threads.proofs.Parts.{part_more, others_part, plain_part, drawn_part}
-use Rattle.proxy_threads.proofs.OwnEvents.{comp_none}
+use Rattle.proxy_threads.proofs.OwnEvents.{own_stays, comp_none}
 
 -- ---- lists
 
@@ -152,15 +152,15 @@ module _ (p q : Seat) (written : ℕ) (lines : Lines) (x : Played) (actor : p.ac
 
   -- ---- why the turn answers so
 
-  entered : (e : Event) → hold.left ≡ with_entry hold.found 0 e → has_ended (past hold.found) ≡ false → EnteredLast q
-  entered e is going = entered_last p q (Composes written lines x) hold e (is ∙ ap (λ (a : ℕ). with_entry hold.found a e) (sym actor)) going
+  entered : (e : Event) → hold.left ≡ with_entry hold.found 0 e → has_ended (past hold.found) ≡ false → is_own (kind_of e) ≡ true → EnteredOne p q
+  entered e is going own = entered_one p q (Composes written lines x) hold e (is ∙ ap (λ (a : ℕ). with_entry hold.found a e) (sym actor)) going (own_stays e own)
 
   was_going : (k : Kind) (e : Entered hold.found k 0 hold.left) → has_ended (past hold.found) ≡ false
   was_going k e = (now_is hold.found.script (past hold.found) k 0 e.event e.is_now).going
 
-  went_for : (y : Played) → Plays hold.found hold.left y → answer_for y ≡ turned.Went → EnteredLast q
-  went_for played.Plain plays is = entered plays.2.event plays.2.is_entered (was_going plays.0 plays.2)
-  went_for (played.Shown scene) plays is = entered plays.entered.event plays.entered.is_entered (was_going kind.Draw plays.entered)
+  went_for : (y : Played) → Plays hold.found hold.left y → answer_for y ≡ turned.Went → EnteredOne p q
+  went_for played.Plain plays is = entered plays.2.event plays.2.is_entered (was_going plays.0 plays.2) (ap is_own (kind_entered plays.0 plays.2) ∙ plays.3)
+  went_for (played.Shown scene) plays is = entered plays.entered.event plays.entered.is_entered (was_going kind.Draw plays.entered) (ap is_own (kind_entered kind.Draw plays.entered))
   went_for _ plays is = absurd (cc (is))
 
   blocked_for : (y : Played) → Plays hold.found hold.left y → answer_for y ≡ turned.Blocked → HasWaited p q hold.left

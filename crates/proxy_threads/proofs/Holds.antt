@@ -12,7 +12,7 @@ use Rattle.model_history.proofs.DueFacts.{entry}
 use Rattle.impl_log.specs.Runs.{Run, past, with_entry}
 use Rattle.impl_core.specs.Origins.{Origin, origin_of, pair_of}
 use Rattle.proxy_threads.specs.Seats.{Seat, SamePass, HasSeenRun, entry_of_pair, entries_of, pairs, past_of}
-use Rattle.proxy_threads.specs.Causes.{EnteredLast}
+use Rattle.proxy_threads.specs.Causes.{is_stop, EnteredLast, EnteredOne}
 use Rattle.proxy_threads.specs.inner.Holdings.{Steps, Finds, CanPut, Puts, Holding}
 
 -- entries as a pass sees them, and back
@@ -136,6 +136,11 @@ module _ (p q : Seat) (Acts : Run → Run → Type 0) (hold : Holding p q Acts) 
     seen = seen_more e is ∙ ap (λ (a : ℕ). pairs hold.found.entries ++ (a, e) ∷ []) (sym hold.same.actor);
     going = ap (λ (h : List Entry). has_ended h) (past_pairs hold.found.entries) ∙ going;
   }
+
+  -- and where that is no giving up, it is the one event since
+  pub entered_one : (e : Event) → hold.left ≡ with_entry hold.found p.actor e → has_ended (past hold.found) ≡ false → is_stop e ≡ false → EnteredOne p q
+  unfolding entered_last
+  entered_one e is going stays = record { last = entered_last e is going; mine = mine_more e is; stays = stays }
 
   -- what it has seen last is the run that it left
   pub past_left : past_of q.seen ≡ past hold.left

@@ -27,12 +27,12 @@ use Rattle.proxy_threads.specs.declared.turned.Turned.TheVariants as turned
 use Rattle.proxy_threads.specs.declared.main_actor.Told.{Told}
 use Rattle.proxy_threads.specs.declared.main_actor.Told.TheVariants as told
 use Rattle.proxy_threads.specs.Seats.{Seat, HasSeenRun, entry_of_pair, pairs, past_of}
-use Rattle.proxy_threads.specs.Causes.{HasNone, HasWaited, MainCause, have_frames_ended}
+use Rattle.proxy_threads.specs.Causes.{is_stop, HasNone, HasWaited, MainCause, have_frames_ended}
 use Rattle.proxy_threads.specs.MainTurns.{IsTied, IsInStep}
 use Rattle.proxy_threads.specs.inner.Holdings.{Steps, Sees, Holding}
 use Rattle.proxy_threads.specs.inner.Steps.{Stops, StopsIfFailed}
 use Rattle.proxy_threads.specs.inner.Mains.{Tells, Listens, IsSentTo, IsHeldBy, event_of, CanEnd, Hands, MainTurns}
-use Rattle.proxy_threads.proofs.Holds.{past_pairs, some_same, same_since, mine_kept, entered_last, past_left}
+use Rattle.proxy_threads.proofs.Holds.{past_pairs, some_same, same_since, mine_kept, entered_one, past_left}
 use Rattle.proxy_threads.proofs.Others.{past_longer, ended_since, others_since, kept_by_others}
 use Rattle.proxy_threads.proofs.OwnEvents.{main_none}
 
@@ -173,7 +173,8 @@ module _ (p q : Seat) (x : Told) (hold : Holding p q (Listens x)) (actor : p.act
       mine = mine_kept p q (Listens x) hold same
 
       cause : (t : Turned) → MainCause q q2 m.turn.run t → MainCause p q2 m.turn.run t
-      cause turned.Went c = c
+      cause turned.Went c =
+          record { last = c.last; mine = c.mine ∙ ap (λ (xs : List (ℕ × Event)). xs ++ (q2.actor, c.last.event) ∷ []) mine; stays = c.stays }
       cause turned.Blocked c = (record { mine = c.0.mine ∙ mine; going = c.0.going; none = c.0.none }, c.1)
       cause turned.Ended c = (c.0 ∙ mine, c.1)
       cause turned.Memory c = c
@@ -229,13 +230,18 @@ after_end p r new host (end.Ready c) sees held going is =
 after_end p r new host (end.Abort k) sees held going is =
     record { changed = held.changed; main = after_abort r (side p r host (end.Abort k) sees held) sees.legal going k (is_held p r host (end.Abort k) sees held) new is }
 
+-- the end of a frame is no giving up
+end_stays : (e : MainEnd) → is_stop (event_of e) ≡ false
+end_stays (end.Ready c) = refl
+end_stays (end.Abort k) = refl
+
 -- the end was handed over, or not
 pub handed : (p q q2 : Seat) (host : MainHostModel) (e : MainEnd) (t : Turned) → IsHeldBy p host e → Holding p q (Hands e t) → StopsIfFailed t q q2 → MainTurns p q2 host t
 handed p q q2 host e turned.Went held hold is =
     let left : hold.left ≡ with_entry hold.found p.actor (event_of e) = hold.acts.1 ∙ ap (λ (a : ℕ). with_entry hold.found a (event_of e)) (sym held.actor) in
     let u = after_end p hold.found hold.left host e hold.sees held hold.acts.0 hold.acts.1 in
     subst (λ (z : Seat). MainTurns p z host turned.Went) (sym is) (record {
-      turn = record { same = hold.same; run = hold.left; stands = hold.stands; cause = entered_last p q (Hands e turned.Went) hold (event_of e) left hold.acts.0 };
+      turn = record { same = hold.same; run = hold.left; stands = hold.stands; cause = entered_one p q (Hands e turned.Went) hold (event_of e) left hold.acts.0 (end_stays e) };
       in_step = inr (tied_after q hold.left host u.changed hold.stands (hold.same.actor ∙ held.actor) u.main);
     })
 handed p q q2 host e turned.Ended held hold is =

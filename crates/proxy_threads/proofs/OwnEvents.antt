@@ -34,6 +34,11 @@ own_kind (event.DoneTile w q) a f = absurd (omega (arith, a))
 own_kind (event.Stop b) a f = absurd (cc (f))
 own_kind _ a f = refl
 
+-- an event of one of its kinds is no giving up
+pub own_stays : (e : Event) → is_own (kind_of e) ≡ true → is_stop e ≡ false
+own_stays (event.Stop a) own = absurd (cc (own))
+own_stays _ own = refl
+
 -- where none of its kinds may come, the compositor has no event
 pub comp_none : (s : ScriptModel) (n : ℕ) (h : List Entry) → ((k : Kind) → is_own k ≡ true → can s h k 0 ≡ None) → HasNone s n h 0
 comp_none s n h none e f x = apart (can s h (kind_of e) 0) e (none (kind_of e) (own_kind e (sym x.actor) f)) (next_can s n h 0 e x)

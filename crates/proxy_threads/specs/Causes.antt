@@ -33,15 +33,21 @@ pub record EnteredLast (q : Seat) : Type 0 where
   pub seen : q.seen ≡ before ++ (q.actor, event) ∷ []
   pub going : has_ended (past_of before) ≡ false
 
+-- since its pass stood there the actor entered one event, this last one, and it is no giving up
+pub record EnteredOne (p q : Seat) : Type 0 where
+  pub last : EnteredLast q
+  pub mine : q.mine ≡ p.mine ++ (q.actor, last.event) ∷ []
+  pub stays : is_stop last.event ≡ false
+
 -- the run goes on, and the actor has no event, and has entered none since
 pub record HasWaited (p q : Seat) (r : Run) : Type 0 where
   pub mine : q.mine ≡ p.mine
   pub going : has_ended (past r) ≡ false
   pub none : HasNone r.script r.workers (past r) q.actor
 
--- why a turn of the compositor answers this: it entered an event; it might enter none; the run had ended before; or it gave up, and the run has ended
+-- why a turn of the compositor answers this: it entered one event; it might enter none; the run had ended before; or it gave up, and the run has ended
 abbrev pub CompCause : Seat → Seat → Run → Turned → Type 0
-CompCause p q r turned.Went = EnteredLast q
+CompCause p q r turned.Went = EnteredOne p q
 CompCause p q r turned.Blocked = HasWaited p q r
 CompCause p q r turned.Ended = (q.mine ≡ p.mine) × (has_ended (past r) ≡ true)
 CompCause p q r turned.Memory = has_ended (past r) ≡ true
@@ -49,7 +55,7 @@ CompCause p q r turned.WriteFault = has_ended (past r) ≡ true
 
 -- the same of the main side, which has ended too if all main frames have ended, and writes nothing
 abbrev pub MainCause : Seat → Seat → Run → Turned → Type 0
-MainCause p q r turned.Went = EnteredLast q
+MainCause p q r turned.Went = EnteredOne p q
 MainCause p q r turned.Blocked = HasWaited p q r × (have_frames_ended r.script (past r) ≡ false)
 MainCause p q r turned.Ended = (q.mine ≡ p.mine) × ((has_ended (past r) ≡ true) ⊎ (have_frames_ended r.script (past r) ≡ true))
 MainCause p q r turned.Memory = has_ended (past r) ≡ true

@@ -41,7 +41,7 @@ StopsIfFailed _ p q = q ≡ p
 abbrev pub Plays : Run → Run → Played → Type 0
 Plays old new played.Ended = (new ≡ old) × (has_ended (past old) ≡ true)
 Plays old new played.Blocked = (new ≡ old) × (has_ended (past old) ≡ false) × ((k : Kind) → is_own k ≡ true → now old k 0 ≡ None)
-Plays old new played.Plain = (k : Kind) × (is_draw_kind k ≡ false) × Entered old k 0 new
+Plays old new played.Plain = (k : Kind) × (is_draw_kind k ≡ false) × Entered old k 0 new × (is_own k ≡ true)
 Plays old new (played.Shown scene) = DrawsScene old new scene
 Plays old new played.Memory = Steps 0 old new
 
