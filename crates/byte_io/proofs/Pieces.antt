@@ -1,18 +1,10 @@
 -- One piece more.
-use Rattle.std.proofs.Common.{◌≡◌, ℕ, ◌+◌, ◌%◌, ◌^◌, List, [], ◌∷◌, ◌++◌, length, ap, ◌∙◌, append-nil, length-append, arith}
-use Rattle.std.specs.Global.{Vec}
-use Rattle.std.proofs.lemmas.Grind.{flat_map-append}
-use Rattle.byte_io.specs.Put.{joined}
+use Rattle.std.proofs.Common.{◌≡◌, ℕ, ◌+◌, ◌%◌, ◌^◌, List, [], ◌∷◌, ◌++◌, length, ap, ◌∙◌, length-append, arith}
 use Rattle.byte_io.specs.Sums.{byte_sum}
 
 total_both : (xs ys : List ℕ) → byte_sum (xs ++ ys) ≡ byte_sum xs + byte_sum ys
 total_both [] ys = omega arith
 total_both (x ∷ xs) ys = let rest = total_both xs ys in omega (arith, rest)
-
--- the bytes of a piece stand after those of the others
-pub joined_more : (pieces : List (Vec ℕ)) (piece : Vec ℕ) → joined (pieces ++ piece ∷ []) ≡ joined pieces ++ piece.items
-joined_more pieces piece =
-    flat_map-append (λ (p : Vec ℕ). p.items) pieces (piece ∷ []) ∙ ap (λ (w : List ℕ). joined pieces ++ w) (append-nil piece.items)
 
 -- the count and the sum of all bytes, where one piece more was put
 pub counts_more : (old new piece : List ℕ) (bytes sum : ℕ) → bytes ≡ length old → sum ≡ byte_sum old % 2 ^ 64 → new ≡ old ++ piece

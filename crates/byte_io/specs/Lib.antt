@@ -1,5 +1,5 @@
 pub mod Counts
+pub mod Logs
 pub mod Memory
 pub mod Pieces
-pub mod Put
 pub mod Sums

@@ -1,8 +1,8 @@
 //! A source in memory.
-ghost use Rattle.std.specs.Prelude.{Some, ◌≡◌, ◌≤◌, ◌-◌, drop, take, length, min, is_err, false, OnErr, IfOk, vec_len};
+ghost use Rattle.std.specs.Prelude.{◌≡◌, ◌≤◌, ◌-◌, drop, take, length, min, is_err, true, false, OnErr, IfOk, vec_len};
 ghost use Rattle.std.specs.Io.{ReadsAtMost};
-ghost use Rattle.std.specs.Io.KnownBytes.{ReadConsumes};
 ghost use Rattle.byte_io.specs.Counts.{Rose, raised, raised_if, is_numbered};
+ghost use Rattle.byte_io.specs.Logs.{Gives, ends_by};
 
 use crate::reading::{Failed, Source};
 
@@ -20,7 +20,10 @@ pub struct MemSource {
     faults: u64,
     /// Whether the last call failed.
     failed: bool,
+    /// Whether the last call answered 0 for a buffer with room.
+    ended: bool,
     ghost within: { given ≤ vec_len bytes },
+    ghost whole: { ended ≡ true → given ≡ vec_len bytes },
     ghost moves: { 1 ≤ step },
 }
 
@@ -35,6 +38,7 @@ impl Drop for MemSource {
             calls: _,
             faults: _,
             failed: _,
+            ended: _,
         } = self;
     }
 }
@@ -56,7 +60,7 @@ impl MemSource {
         requires { 1 ≤ step }
         ensures bytes { (result.bytes ≡ bytes) × (result.given ≡ 0) }
         ensures told { (result.step ≡ step) × (result.fails ≡ fails) }
-        ensures counts { (result.calls ≡ 0) × (result.faults ≡ 0) × (result.failed ≡ false) }
+        ensures counts { (result.calls ≡ 0) × (result.faults ≡ 0) × (result.failed ≡ false) × (result.ended ≡ false) }
     {
         MemSource {
             bytes,
@@ -66,21 +70,24 @@ impl MemSource {
             calls: 0,
             faults: 0,
             failed: false,
+            ended: false,
         }
     }
 }
 
 impl Source for MemSource {
-    ghost left = { λ s. Some (drop s.given s.bytes.items) };
+    ghost given = { λ s. take s.given s.bytes.items };
+
+    ghost has_ended = { λ s. s.ended };
 
     ghost faults = { λ s. s.faults };
 
     ghost has_failed = { λ s. s.failed };
 
-    #[tactic(auto, using(crate::proofs::Fronts::drop_more))]
     fn read(&mut self, buf: &mut [u8]) -> Result<usize, Failed>
         ensures bound { ReadsAtMost result buf.new }
-        ensures bytes { ReadConsumes (Some (drop self.old.given self.old.bytes.items)) (Some (drop self.new.given self.new.bytes.items)) result buf.new }
+        ensures bytes { Gives (take self.old.given self.old.bytes.items) (take self.new.given self.new.bytes.items) result buf.new }
+        ensures end { self.new.ended ≡ ends_by result (length buf.old) }
         ensures grows { self.old.faults ≤ self.new.faults }
         ensures cause { OnErr result (Rose self.old.faults self.new.faults) }
         ensures exactly { is_err result ≡ is_numbered self.old.calls self.old.fails.items }
@@ -92,6 +99,7 @@ impl Source for MemSource {
     {
         let number = self.calls;
         self.calls = number.saturating_add(1);
+        self.ended = false;
         self.failed = self.fails.contains(&number);
         if self.failed {
             self.faults = self.faults.saturating_add(1);
@@ -101,6 +109,7 @@ impl Source for MemSource {
         let count = rest.len().min(buf.len()).min(self.step as usize);
         copy_front(rest, buf, count);
         self.given += count;
+        self.ended = count == 0 && !buf.is_empty();
         Ok(count)
     }
 }

@@ -4,7 +4,7 @@
 
 use byte_io::{OpenGate, Sink, StdSink, StdSource};
 use player_lines::{Ends, Session};
-use player_run::{Streams, run};
+use player_run::{Streams, run_played, run_std};
 use std::alloc::{AllocError, Global};
 use std::env::{Env, FillError};
 use std::process::ExitCode;
@@ -126,6 +126,10 @@ fn main(rt: HostRuntime) -> ExitCode {
         notes,
         session: Session::new(ends),
     };
-    let outcome = run(&rt, rt.alloc(), words.as_slice(), &mut streams, &OpenGate);
+    let words = words.as_slice();
+    let outcome = match run_std(&rt, rt.alloc(), words, &mut streams) {
+        Some(outcome) => outcome,
+        None => run_played(&rt, rt.alloc(), words, &mut streams, &OpenGate),
+    };
     ExitCode::from(outcome.status())
 }

@@ -117,6 +117,6 @@ Has P (Some h) = P h
 abbrev pub IsNew : Option (List Act) → Type 0
 IsNew past = past ≡ Some []
 
--- a call of the client failed: its count of faults rose, or a piece of data was torn
+-- a put failed: their count rose, or a piece of data was torn
 abbrev pub HasFailed : ℕ → ℕ → Bool → Type 0
 HasFailed old new torn = Rose old new ⊎ (torn ≡ true)

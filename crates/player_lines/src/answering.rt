@@ -58,8 +58,8 @@ pub trait Answerer {
         requires whole { session.old.torn ≡ false }
         ensures answered { Answered (answers self.now number line.now) (C.past session.old.client) (C.past session.new.client) result }
         ensures whole { OnOk result (session.new.torn ≡ false) }
-        ensures grows { C.faults session.old.client ≤ C.faults session.new.client }
-        ensures cause { OnErr result (HasFailed (C.faults session.old.client) (C.faults session.new.client) session.new.torn) };
+        ensures grows { C.put_faults session.old.client ≤ C.put_faults session.new.client }
+        ensures cause { OnErr result (HasFailed (C.put_faults session.old.client) (C.put_faults session.new.client) session.new.torn) };
 
     /// Answers the line of this number, which was not kept.
     fn refuse<C: Client>(
@@ -71,6 +71,6 @@ pub trait Answerer {
         requires whole { session.old.torn ≡ false }
         ensures answered { (line : List ℕ) → IsUnkept (most self.now) why line → Answered (answers self.now number line) (C.past session.old.client) (C.past session.new.client) result }
         ensures whole { OnOk result (session.new.torn ≡ false) }
-        ensures grows { C.faults session.old.client ≤ C.faults session.new.client }
-        ensures cause { OnErr result (HasFailed (C.faults session.old.client) (C.faults session.new.client) session.new.torn) };
+        ensures grows { C.put_faults session.old.client ≤ C.put_faults session.new.client }
+        ensures cause { OnErr result (HasFailed (C.put_faults session.old.client) (C.put_faults session.new.client) session.new.torn) };
 }

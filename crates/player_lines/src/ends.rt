@@ -1,24 +1,38 @@
 //! A client of which the two directions are a source and a sink.
 
-ghost use Rattle.std.specs.Prelude.{◌≡◌, ◌++◌, codes, None, OnErr, ◌≤◌};
+ghost use Rattle.std.specs.Prelude.{◌≡◌, ◌++◌, [], codes, Some, false, OnErr, ◌≤◌, is_err};
 ghost use Rattle.std.specs.Io.{ReadsAtMost};
-ghost use Rattle.std.specs.Io.KnownBytes.{ReadConsumes};
-ghost use Rattle.byte_io.specs.Counts.{Rose};
+ghost use Rattle.byte_io.specs.Counts.{Rose, raised_if};
+ghost use Rattle.byte_io.specs.Logs.{Gives};
+ghost use Rattle.player_lines.specs.Passings.{acts};
 ghost use Rattle.player_lines.specs.Sessions.{frame};
-ghost use Rattle.player_lines.specs.inner.Pasts.{Gains, HasRefused, ReadAdds};
+ghost use Rattle.player_lines.specs.inner.Pasts.{DataAdds, Gains, HasRefused, ReadAdds, TextAdds};
 
 use crate::client::{Client, Failed};
+use crate::passed::Passed;
 use byte_io::{PutFault, Sink, Source};
+use ghost_list::GhostList;
 use itoa::Buffer;
 
-/// A source that gives the bytes of a client, and a sink that takes those for it. What they tell apart says nothing
-/// of the order in which both were called, so as a client they tell no past.
+/// A source that gives the bytes of a client, and a sink that takes those for it. Their calls are logged in order, so
+/// as a client they tell the whole past, whatever they tell apart.
 #[derive(Drop)]
 pub struct Ends<S, K> {
     source: S,
     out: K,
-    /// How many calls failed.
-    faults: u64,
+    /// Whether the last read failed.
+    failed: bool,
+    /// How many puts failed.
+    put_faults: u64,
+    /// What passed, the oldest act first, for clauses alone.
+    passed: GhostList<Passed>,
+}
+
+// These bytes, for clauses alone.
+fn told(bytes: &[u8]) -> GhostList<u8>
+    ensures { result.items ≡ bytes.now }
+{
+    GhostList::new().with_all(bytes)
 }
 
 // Puts a piece.
@@ -82,12 +96,14 @@ pub fn put_frame<K: Sink>(out: &mut K, piece: &[u8]) -> Result<(), Failed>
 impl<S: Source, K: Sink> Ends<S, K> {
     /// A client that gives what the source gives, and hands to the sink what it takes.
     pub fn new(source: S, out: K) -> Ends<S, K>
-        ensures { (result.source ≡ source) × (result.out ≡ out) × (result.faults ≡ 0) }
+        ensures { (result.source ≡ source) × (result.out ≡ out) × (result.failed ≡ false) × (result.put_faults ≡ 0) × (result.passed.items ≡ []) }
     {
         Ends {
             source,
             out,
-            faults: 0,
+            failed: false,
+            put_faults: 0,
+            passed: GhostList::new(),
         }
     }
 
@@ -103,45 +119,79 @@ impl<S: Source, K: Sink> Ends<S, K> {
 }
 
 impl<S: Source, K: Sink> Client for Ends<S, K> {
-    ghost faults = { λ s. s.faults };
+    ghost past = { λ s. Some (acts s.passed.items) };
+
+    ghost has_failed = { λ s. s.failed };
+
+    ghost put_faults = { λ s. s.put_faults };
 
     fn read(&mut self, buf: &mut [u8]) -> Result<usize, Failed>
         ensures bound { ReadsAtMost result buf.new }
-        ensures adds { ReadAdds None None result buf.new }
-        ensures bytes { ReadConsumes (S.left self.old.source) (S.left self.new.source) result buf.new }
-        ensures grows { self.old.faults ≤ self.new.faults }
-        ensures cause { OnErr result (Rose self.old.faults self.new.faults) }
+        ensures adds { ReadAdds (Some (acts self.old.passed.items)) (Some (acts self.new.passed.items)) result buf.new }
+        ensures bytes { Gives (S.given self.old.source) (S.given self.new.source) result buf.new }
+        ensures stays { self.new.out ≡ self.old.out }
+        ensures last { self.new.failed ≡ is_err result }
+        ensures puts { self.new.put_faults ≡ self.old.put_faults }
     {
         match self.source.read(buf) {
-            Ok(count) => Ok(count),
+            Ok(count) => {
+                let passed = Passed::Got(told(&buf[..count]));
+                self.passed = self.passed.and(&passed);
+                self.failed = false;
+                Ok(count)
+            }
             Err(_) => {
-                self.faults = self.faults.saturating_add(1);
+                self.failed = true;
                 Err(Failed)
             }
         }
     }
 
     fn put_data(&mut self, piece: &[u8]) -> Result<(), Failed>
+        ensures adds { DataAdds (Some (acts self.old.passed.items)) (Some (acts self.new.passed.items)) piece.now result }
         ensures bytes { Gains (K.held self.old.out) (K.held self.new.out) (frame piece.now) result }
-        ensures grows { self.old.faults ≤ self.new.faults }
-        ensures cause { OnErr result (Rose self.old.faults self.new.faults) }
+        ensures stays { self.new.source ≡ self.old.source }
+        ensures grows { self.old.put_faults ≤ self.new.put_faults }
+        ensures cause { OnErr result (Rose self.old.put_faults self.new.put_faults) }
+        ensures count { self.new.put_faults ≡ raised_if (is_err result) self.old.put_faults }
+        ensures reads { self.new.failed ≡ self.old.failed }
     {
-        let put = put_frame(&mut self.out, piece);
-        if put.is_err() {
-            self.faults = self.faults.saturating_add(1);
+        match put_frame(&mut self.out, piece) {
+            Ok(()) => {
+                let passed = Passed::Data(told(piece));
+                self.passed = self.passed.and(&passed);
+                Ok(())
+            }
+            Err(failed) => {
+                let passed = Passed::TornData(told(piece), 0);
+                self.passed = self.passed.and(&passed);
+                self.put_faults = self.put_faults.saturating_add(1);
+                Err(failed)
+            }
         }
-        put
     }
 
     fn put_text(&mut self, text: &[u8]) -> Result<(), Failed>
+        ensures adds { TextAdds (Some (acts self.old.passed.items)) (Some (acts self.new.passed.items)) text.now result }
         ensures bytes { Gains (K.held self.old.out) (K.held self.new.out) text.now result }
-        ensures grows { self.old.faults ≤ self.new.faults }
-        ensures cause { OnErr result (Rose self.old.faults self.new.faults) }
+        ensures stays { self.new.source ≡ self.old.source }
+        ensures grows { self.old.put_faults ≤ self.new.put_faults }
+        ensures cause { OnErr result (Rose self.old.put_faults self.new.put_faults) }
+        ensures count { self.new.put_faults ≡ raised_if (is_err result) self.old.put_faults }
+        ensures reads { self.new.failed ≡ self.old.failed }
     {
-        let put = put_piece(&mut self.out, text);
-        if put.is_err() {
-            self.faults = self.faults.saturating_add(1);
+        match put_piece(&mut self.out, text) {
+            Ok(()) => {
+                let passed = Passed::Text(told(text));
+                self.passed = self.passed.and(&passed);
+                Ok(())
+            }
+            Err(failed) => {
+                let passed = Passed::TornText(told(text), 0);
+                self.passed = self.passed.and(&passed);
+                self.put_faults = self.put_faults.saturating_add(1);
+                Err(failed)
+            }
         }
-        put
     }
 }

@@ -12,10 +12,12 @@ mod answering;
 mod client;
 mod ends;
 mod lines;
+mod passed;
 mod session;
 
 pub use answering::{Answerer, Stop, Unkept};
 pub use client::{Client, Failed};
 pub use ends::{Ends, put_frame};
 pub use lines::serve;
+pub use passed::Passed;
 pub use session::Session;

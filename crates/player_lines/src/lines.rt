@@ -59,8 +59,8 @@ impl Begun {
         requires fits { Fits (A.most answerer.now) self.now.line.items self.now.lost }
         ensures answered { (line : List ℕ) → Keeps (A.most answerer.now) self.now.line.items self.now.lost line → Answered (A.answers answerer.now self.now.number line) (C.past session.old.client) (C.past session.new.client) result }
         ensures whole { OnOk result (session.new.torn ≡ false) }
-        ensures grows { C.faults session.old.client ≤ C.faults session.new.client }
-        ensures cause { OnErr result (HasFailed (C.faults session.old.client) (C.faults session.new.client) session.new.torn) }
+        ensures grows { C.put_faults session.old.client ≤ C.put_faults session.new.client }
+        ensures cause { OnErr result (HasFailed (C.put_faults session.old.client) (C.put_faults session.new.client) session.new.torn) }
     {
         match self.lost {
             None => answerer.answer(rt, session, self.number, &self.line),
@@ -94,8 +94,8 @@ impl Begun {
         ensures feeds { (after : List ℕ) → Has (IsLeft (A.answers answerer.now) (A.most answerer.now) self.old.number self.old.line.items self.old.lost (10 ∷ after)) (C.past session.old.client) → Feeds (IsLeft (A.answers answerer.now) (A.most answerer.now) self.new.number self.new.line.items self.new.lost after) (A.answers answerer.now) (C.past session.new.client) result }
         ensures whole { OnOk result (session.new.torn ≡ false) }
         ensures fits { OnOk result (Fits (A.most answerer.now) self.new.line.items self.new.lost) }
-        ensures grows { C.faults session.old.client ≤ C.faults session.new.client }
-        ensures cause { ClientCause (C.faults session.old.client) (C.faults session.new.client) session.new.torn result }
+        ensures grows { C.put_faults session.old.client ≤ C.put_faults session.new.client }
+        ensures cause { ClientCause (C.put_faults session.old.client) (C.put_faults session.new.client) session.new.torn (C.has_failed session.new.client) result }
     {
         match self.give_answer(rt, answerer, session) {
             Ok(()) => self.begin_next(),
@@ -119,8 +119,8 @@ impl Begun {
         ensures feeds { (after : List ℕ) → Has (IsLeft (A.answers answerer.now) (A.most answerer.now) self.old.number self.old.line.items self.old.lost (byte ∷ after)) (C.past session.old.client) → Feeds (IsLeft (A.answers answerer.now) (A.most answerer.now) self.new.number self.new.line.items self.new.lost after) (A.answers answerer.now) (C.past session.new.client) result }
         ensures whole { OnOk result (session.new.torn ≡ false) }
         ensures fits { OnOk result (Fits (A.most answerer.now) self.new.line.items self.new.lost) }
-        ensures grows { C.faults session.old.client ≤ C.faults session.new.client }
-        ensures cause { ClientCause (C.faults session.old.client) (C.faults session.new.client) session.new.torn result }
+        ensures grows { C.put_faults session.old.client ≤ C.put_faults session.new.client }
+        ensures cause { ClientCause (C.put_faults session.old.client) (C.put_faults session.new.client) session.new.torn (C.has_failed session.new.client) result }
     {
         if byte == b'\n' {
             self.end_line(rt, answerer, session)
@@ -144,8 +144,8 @@ impl Begun {
         ensures feeds { Has (IsLeft (A.answers answerer.now) (A.most answerer.now) self.old.number self.old.line.items self.old.lost bytes.now) (C.past session.old.client) → Feeds (IsLeft (A.answers answerer.now) (A.most answerer.now) self.new.number self.new.line.items self.new.lost []) (A.answers answerer.now) (C.past session.new.client) result }
         ensures whole { OnOk result (session.new.torn ≡ false) }
         ensures fits { OnOk result (Fits (A.most answerer.now) self.new.line.items self.new.lost) }
-        ensures grows { C.faults session.old.client ≤ C.faults session.new.client }
-        ensures cause { ClientCause (C.faults session.old.client) (C.faults session.new.client) session.new.torn result }
+        ensures grows { C.put_faults session.old.client ≤ C.put_faults session.new.client }
+        ensures cause { ClientCause (C.put_faults session.old.client) (C.put_faults session.new.client) session.new.torn (C.has_failed session.new.client) result }
     {
         let most = answerer.most();
         let mut rest = bytes;
@@ -173,8 +173,8 @@ impl Begun {
         ensures feeds { Has (IsLeft (A.answers answerer.now) (A.most answerer.now) self.old.number self.old.line.items self.old.lost []) (C.past session.old.client) → GoesOn (IsLeft (A.answers answerer.now) (A.most answerer.now) self.new.number self.new.line.items self.new.lost []) (A.answers answerer.now) (C.past session.new.client) result }
         ensures whole { OnOk result (session.new.torn ≡ false) }
         ensures fits { OnOk result (Fits (A.most answerer.now) self.new.line.items self.new.lost) }
-        ensures grows { C.faults session.old.client ≤ C.faults session.new.client }
-        ensures cause { ClientCause (C.faults session.old.client) (C.faults session.new.client) session.new.torn result }
+        ensures grows { C.put_faults session.old.client ≤ C.put_faults session.new.client }
+        ensures cause { ClientCause (C.put_faults session.old.client) (C.put_faults session.new.client) session.new.torn (C.has_failed session.new.client) result }
     {
         match session.read(buffer) {
             Ok(0) => Ok(false),
@@ -201,8 +201,8 @@ impl Begun {
         ensures feeds { Has (IsLeft (A.answers answerer.now) (A.most answerer.now) self.old.number self.old.line.items self.old.lost []) (C.past session.old.client) → Feeds (LeftLast (IsLeft (A.answers answerer.now) (A.most answerer.now) self.new.number self.new.line.items self.new.lost [])) (A.answers answerer.now) (C.past session.new.client) result }
         ensures whole { OnOk result (session.new.torn ≡ false) }
         ensures fits { OnOk result (Fits (A.most answerer.now) self.new.line.items self.new.lost) }
-        ensures grows { C.faults session.old.client ≤ C.faults session.new.client }
-        ensures cause { ClientCause (C.faults session.old.client) (C.faults session.new.client) session.new.torn result }
+        ensures grows { C.put_faults session.old.client ≤ C.put_faults session.new.client }
+        ensures cause { ClientCause (C.put_faults session.old.client) (C.put_faults session.new.client) session.new.torn (C.has_failed session.new.client) result }
     {
         for _ in 0..u64::MAX {
             match self.turn(rt, answerer, session, buffer) {
@@ -232,8 +232,8 @@ impl Begun {
         requires whole { session.old.torn ≡ false }
         requires fits { Fits (A.most answerer.now) self.now.line.items self.now.lost }
         ensures ends { Has (LeftLast (IsLeft (A.answers answerer.now) (A.most answerer.now) self.now.number self.now.line.items self.now.lost [])) (C.past session.old.client) → Has (λ h. AtOnce (A.answers answerer.now) h × Ends (A.answers answerer.now) result h) (C.past session.new.client) }
-        ensures grows { C.faults session.old.client ≤ C.faults session.new.client }
-        ensures cause { ClientCause (C.faults session.old.client) (C.faults session.new.client) session.new.torn result }
+        ensures grows { C.put_faults session.old.client ≤ C.put_faults session.new.client }
+        ensures cause { ClientCause (C.put_faults session.old.client) (C.put_faults session.new.client) session.new.torn (C.has_failed session.new.client) result }
     {
         if !self.has_begun() {
             return Ok(());
@@ -262,8 +262,8 @@ pub fn serve<R: Threads + Sync, C: Client, A: Answerer>(
     requires { session.old.torn ≡ false }
     ensures at_once { IsNew (C.past session.old.client) → Has (AtOnce (A.answers answerer.now)) (C.past session.new.client) }
     ensures ends { IsNew (C.past session.old.client) → Has (Ends (A.answers answerer.now) result) (C.past session.new.client) }
-    ensures grows { C.faults session.old.client ≤ C.faults session.new.client }
-    ensures cause { ClientCause (C.faults session.old.client) (C.faults session.new.client) session.new.torn result }
+    ensures grows { C.put_faults session.old.client ≤ C.put_faults session.new.client }
+    ensures cause { ClientCause (C.put_faults session.old.client) (C.put_faults session.new.client) session.new.torn (C.has_failed session.new.client) result }
 {
     let Ok(mut buffer) = blank(alloc) else {
         return Err(Stop::Memory);

@@ -1,6 +1,6 @@
 //! A session: a client, and whether a piece of data was torn.
 
-ghost use Rattle.std.specs.Prelude.{◌≡◌, ◌≤◌, true, false, OnErr, length};
+ghost use Rattle.std.specs.Prelude.{◌≡◌, ◌≤◌, true, false, OnErr, OnOk, is_err, length};
 ghost use Rattle.std.specs.Io.{ReadsAtMost};
 ghost use Rattle.byte_io.specs.Counts.{Rose};
 ghost use Rattle.byte_io.specs.Pieces.{PutAppends, PutCause};
@@ -56,8 +56,8 @@ impl<C: Client> Session<C> {
         ensures bound { ReadsAtMost result buf.new }
         ensures adds { ReadAdds (C.past self.old.client) (C.past self.new.client) result buf.new }
         ensures torn { self.new.torn ≡ self.old.torn }
-        ensures grows { C.faults self.old.client ≤ C.faults self.new.client }
-        ensures cause { OnErr result (Rose (C.faults self.old.client) (C.faults self.new.client)) }
+        ensures last { C.has_failed self.new.client ≡ is_err result }
+        ensures puts { C.put_faults self.new.client ≡ C.put_faults self.old.client }
     {
         self.client.read(buf)
     }
@@ -68,8 +68,8 @@ impl<C: Client> Session<C> {
         ensures said { Said (C.past self.old.client) (C.past self.new.client) text.now result }
         ensures torn { self.new.torn ≡ self.old.torn }
         ensures refused { self.new.refused ≡ self.old.refused }
-        ensures grows { C.faults self.old.client ≤ C.faults self.new.client }
-        ensures cause { OnErr result (Rose (C.faults self.old.client) (C.faults self.new.client)) }
+        ensures grows { C.put_faults self.old.client ≤ C.put_faults self.new.client }
+        ensures cause { OnErr result (Rose (C.put_faults self.old.client) (C.put_faults self.new.client)) }
     {
         self.client.put_text(text)
     }
@@ -80,7 +80,7 @@ impl<C: Client> Sink for Session<C> {
 
     ghost held = { λ s. told s.torn (C.past s.client) };
 
-    ghost faults = { λ s. C.faults s.client };
+    ghost faults = { λ s. C.put_faults s.client };
 
     ghost refusals = { λ s. s.refused };
 
@@ -91,9 +91,10 @@ impl<C: Client> Sink for Session<C> {
     #[tactic(auto, using(crate::proofs::Telling::data_put, crate::proofs::Telling::data_torn))]
     fn put(&mut self, piece: &[u8]) -> Result<(), PutFault>
         ensures bytes { PutAppends (told self.old.torn (C.past self.old.client)) (told self.new.torn (C.past self.new.client)) piece.now result }
-        ensures grows { C.faults self.old.client ≤ C.faults self.new.client }
+        ensures grows { C.put_faults self.old.client ≤ C.put_faults self.new.client }
         ensures refused { self.old.refused ≤ self.new.refused }
-        ensures cause { PutCause (C.faults self.old.client) (C.faults self.new.client) self.old.refused self.new.refused result }
+        ensures cause { PutCause (C.put_faults self.old.client) (C.put_faults self.new.client) self.old.refused self.new.refused result }
+        ensures torn { OnOk result (self.new.torn ≡ self.old.torn) }
     {
         if self.torn {
             self.refused = self.refused.saturating_add(1);

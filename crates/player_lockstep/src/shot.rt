@@ -124,7 +124,7 @@ fn fresh(alloc: Global, script: &Arc<Script>, workers: u32) -> Result<SingleThre
 
 /// Plays an accepted script in lockstep with the given number of workers. The picture of its last draw as a PNG
 /// file; None if no draw gave a picture. Of the pictures only the last is painted, in at most as many parts as
-/// there are workers, and a run may be of any length. The file is the same for every number of workers. An error
+/// there are workers, and a run may be of any length. The picture is the same for every number of workers. An error
 /// means out of memory.
 pub fn shoot<R: Threads + Sync>(
     rt: &R,

@@ -1,6 +1,6 @@
 -- What a use takes is not refused.
-use Rattle.std.proofs.Common.{◌≡◌, ◌⊎◌, inl, inr, ℕ, List, None, Some, Ok, Err, refl, subst}
-use Rattle.std.specs.Prelude.{Option, Result, IfOk}
+use Rattle.std.proofs.Common.{◌≡◌, ◌⊎◌, inl, inr, ℕ, List, None, Ok, Err, refl, subst}
+use Rattle.std.specs.Prelude.{Result, IfOk}
 use Rattle.byte_io.specs.Counts.{Rose}
 use Rattle.model_history.specs.Scripts.{ScriptModel}
 use Rattle.script_json.proofs.ScriptLaws.{one_script}
@@ -79,26 +79,19 @@ unread_done a b c e (BadRecording place) unread faults calm = absurd unread
 unread_done a b c e (No event) unread faults calm = absurd unread
 unread_done a b c e NoPicture unread faults calm = absurd unread
 
-complete_use : (wanted : Use) (source : Option (List ℕ)) (source_old source_new out_old out_new : ℕ) (result : Outcome) → TellsMisfit (Ok wanted) result → CauseFrom wanted source result → Causes source_old source_new out_old out_new result
-    → IsComplete wanted source source_old source_new out_old out_new result
-complete_use (Gen number) source a b c e result fits cause faults = λ calm_source calm_out. unread_done a b c e result cause faults calm_out
-complete_use (Demo number) source a b c e result fits cause faults = λ calm_source calm_out. unread_done a b c e result cause faults calm_out
-complete_use (Step workers) None a b c e result fits cause faults = tt
-complete_use (Step workers) (Some bytes) a b c e result fits cause faults = λ takes calm_source calm_out. done (Step workers) bytes a b c e result fits cause faults takes calm_source calm_out
-complete_use (Play workers) None a b c e result fits cause faults = tt
-complete_use (Play workers) (Some bytes) a b c e result fits cause faults = λ takes calm_source calm_out. done (Play workers) bytes a b c e result fits cause faults takes calm_source calm_out
-complete_use (Film workers) None a b c e result fits cause faults = tt
-complete_use (Film workers) (Some bytes) a b c e result fits cause faults = λ takes calm_source calm_out. done (Film workers) bytes a b c e result fits cause faults takes calm_source calm_out
-complete_use (Shot workers) None a b c e result fits cause faults = tt
-complete_use (Shot workers) (Some bytes) a b c e result fits cause faults = λ takes calm_source calm_out. done (Shot workers) bytes a b c e result fits cause faults takes calm_source calm_out
-complete_use Frames None a b c e result fits cause faults = tt
-complete_use Frames (Some bytes) a b c e result fits cause faults = λ takes calm_source calm_out. done Frames bytes a b c e result fits cause faults takes calm_source calm_out
-complete_use Check None a b c e result fits cause faults = tt
-complete_use Check (Some bytes) a b c e result fits cause faults = λ takes calm_source calm_out. done Check bytes a b c e result fits cause faults takes calm_source calm_out
-complete_use (Serve workers) None a b c e result fits cause faults = tt
-complete_use (Serve workers) (Some bytes) a b c e result fits cause faults = tt
+complete_use : (wanted : Use) (bytes : List ℕ) (source_old source_new out_old out_new : ℕ) (result : Outcome) → TellsMisfit (Ok wanted) result → CauseFrom wanted bytes result → Causes source_old source_new out_old out_new result
+    → IsComplete wanted bytes source_old source_new out_old out_new result
+complete_use (Gen number) bytes a b c e result fits cause faults = λ calm_source calm_out. unread_done a b c e result cause faults calm_out
+complete_use (Demo number) bytes a b c e result fits cause faults = λ calm_source calm_out. unread_done a b c e result cause faults calm_out
+complete_use (Step workers) bytes a b c e result fits cause faults = λ takes calm_source calm_out. done (Step workers) bytes a b c e result fits cause faults takes calm_source calm_out
+complete_use (Play workers) bytes a b c e result fits cause faults = λ takes calm_source calm_out. done (Play workers) bytes a b c e result fits cause faults takes calm_source calm_out
+complete_use (Film workers) bytes a b c e result fits cause faults = λ takes calm_source calm_out. done (Film workers) bytes a b c e result fits cause faults takes calm_source calm_out
+complete_use (Shot workers) bytes a b c e result fits cause faults = λ takes calm_source calm_out. done (Shot workers) bytes a b c e result fits cause faults takes calm_source calm_out
+complete_use Frames bytes a b c e result fits cause faults = λ takes calm_source calm_out. done Frames bytes a b c e result fits cause faults takes calm_source calm_out
+complete_use Check bytes a b c e result fits cause faults = λ takes calm_source calm_out. done Check bytes a b c e result fits cause faults takes calm_source calm_out
+complete_use (Serve workers) bytes a b c e result fits cause faults = tt
 
-pub complete : (asked : Result Use ℕ) (source : Option (List ℕ)) (source_old source_new out_old out_new : ℕ) (result : Outcome) → TellsMisfit asked result → IfOk asked (λ wanted. CauseFrom wanted source result) → Causes source_old source_new out_old out_new result
-    → IfOk asked (λ wanted. IsComplete wanted source source_old source_new out_old out_new result)
-complete (Err word) source a b c e result fits cause faults = tt
-complete (Ok wanted) source a b c e result fits cause faults = complete_use wanted source a b c e result fits cause faults
+pub complete : (asked : Result Use ℕ) (bytes : List ℕ) (source_old source_new out_old out_new : ℕ) (result : Outcome) → TellsMisfit asked result → IfOk asked (λ wanted. CauseFrom wanted bytes result) → Causes source_old source_new out_old out_new result
+    → IfOk asked (λ wanted. IsComplete wanted bytes source_old source_new out_old out_new result)
+complete (Err word) bytes a b c e result fits cause faults = tt
+complete (Ok wanted) bytes a b c e result fits cause faults = complete_use wanted bytes a b c e result fits cause faults

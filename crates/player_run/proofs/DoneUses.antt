@@ -1,7 +1,6 @@
 -- What is said of a use that was done is all that is said of a run.
-use Rattle.std.specs.Prelude.{◌≡◌, ℕ, false, true, List, [], Option, None, Some, Result, Ok, Err, IfOk, IfSome}
+use Rattle.std.specs.Prelude.{◌≡◌, ℕ, List, [], Option, None, Some, Result, Ok, Err, IfOk}
 use Rattle.std.proofs.Common.{refl, sym, subst, append-nil, inl}
-use Rattle.std.proofs.lemmas.Bool.{false≢true}
 use Rattle.std.specs.Io.KnownBytes.{Appends}
 use Rattle.byte_io.specs.declared.reading.Source as reading
 use Rattle.byte_io.specs.declared.writing.Sink as writing
@@ -16,11 +15,11 @@ use Rattle.player_uses.specs.Faults.{Causes, StopsAtFault, IsSilent}
 use Rattle.player_uses.specs.Outputs.{WritesSome, DeliversImages}
 use Rattle.player_uses.specs.Reading.{Reads, ReadToEnd}
 use Rattle.player_uses.specs.Refusals.{ExplainsImages, ExplainsJudgement}
-use Rattle.player_uses.specs.Words.{needs_more}
 use Rattle.player_uses.proofs.Outputs.{some_words, some_unread}
 use Rattle.player_uses.proofs.Answered.{some_stops}
-use Rattle.player_run.specs.Ran.{Did, Passes}
+use Rattle.player_run.specs.Ran.{bytes_given, Did, Passes}
 use Rattle.player_run.specs.Runs.{CauseFrom, IsOutput, Writes, IsComplete, UnlessServe}
+use Rattle.player_run.specs.Served.{Serves}
 use Rattle.player_run.proofs.Completeness.{complete}
 use Rattle.player_run.proofs.Outputs.{nothing_written, some_output}
 use Rattle.player_run.proofs.ReadUses.{frames_input, frames_output, check_input}
@@ -37,8 +36,8 @@ unless_serve Check P holds = holds
 unless_serve (Serve workers) P holds = tt
 
 pub did : {S K P : Type 0} (s : reading.Ghosts S) (k : writing.Ghosts K P) (wanted : Use) (source_old source_new : S) (out_old out_new : K) (o : Outcome)
-    → TellsMisfit (Ok wanted) o → CauseFrom wanted (s.left source_old) o → Reads wanted (s.left source_old) (s.left source_new) → ReadToEnd wanted (s.left source_new) o
-    → Writes wanted (s.left source_old) (k.held out_old) (k.held out_new) o → MayAnswer wanted o
+    → TellsMisfit (Ok wanted) o → CauseFrom wanted (bytes_given s source_old source_new) o → Reads wanted (s.given source_old) (s.given source_new) → ReadToEnd wanted (s.has_ended source_new) o
+    → Writes wanted (bytes_given s source_old source_new) (k.held out_old) (k.held out_new) o → MayAnswer wanted o
     → Causes (s.faults source_old) (s.faults source_new) (k.faults out_old) (k.faults out_new) o → StopsAtFault (s.faults source_old) (s.faults source_new) (s.has_failed source_new) o
     → Did s k (Ok wanted) source_old source_new out_old out_new o
 did s k wanted source_old source_new out_old out_new o words input reads end output answers cause stops = record {
@@ -51,7 +50,7 @@ did s k wanted source_old source_new out_old out_new o words input reads end out
   answers = answers;
   cause = unless_serve wanted (Causes (s.faults source_old) (s.faults source_new) (k.faults out_old) (k.faults out_new) o) cause;
   stops = unless_serve wanted (StopsAtFault (s.faults source_old) (s.faults source_new) (s.has_failed source_new) o) stops;
-  complete = complete (Ok wanted) (s.left source_old) (s.faults source_old) (s.faults source_new) (k.faults out_old) (k.faults out_new) o words input cause;
+  complete = complete (Ok wanted) (bytes_given s source_old source_new) (s.faults source_old) (s.faults source_new) (k.faults out_old) (k.faults out_new) o words input cause;
 }
 
 -- ---- words that fit no use
@@ -78,17 +77,17 @@ calm_cause P old new a b c d WriteFault wrote cause = cause
 calm_cause P old new a b c d _ wrote cause = tt
 
 pub did_number : {S K P : Type 0} (s : reading.Ghosts S) (k : writing.Ghosts K P) (wanted : Use) (IsWhole : List ℕ → Type 0) (given : S) (out_old out_new : K) (o : Outcome)
-    → ((whole : List ℕ) → IsWhole whole → IsOutput wanted (s.left given) whole) → (IsUnread o → CauseFrom wanted (s.left given) o × MayAnswer wanted o)
-    → Reads wanted (s.left given) (s.left given) × ReadToEnd wanted (s.left given) o
+    → ((whole : List ℕ) → IsWhole whole → IsOutput wanted (bytes_given s given given) whole) → (IsUnread o → CauseFrom wanted (bytes_given s given given) o × MayAnswer wanted o)
+    → Reads wanted (s.given given) (s.given given) × ReadToEnd wanted (s.has_ended given) o
     → WritesSome IsWhole (k.held out_old) (k.held out_new) o → Causes 0 0 (k.faults out_old) (k.faults out_new) o → Did s k (Ok wanted) given given out_old out_new o
 did_number s k wanted IsWhole given out_old out_new o is answer reads wrote cause =
-    let said : CauseFrom wanted (s.left given) o × MayAnswer wanted o = answer (some_unread IsWhole (k.held out_old) (k.held out_new) o wrote) in
+    let said : CauseFrom wanted (bytes_given s given given) o × MayAnswer wanted o = answer (some_unread IsWhole (k.held out_old) (k.held out_new) o wrote) in
     did s k wanted given given out_old out_new o
     (some_words IsWhole wanted (k.held out_old) (k.held out_new) o wrote)
     said.0
     reads.0
     reads.1
-    (some_output IsWhole wanted (s.left given) (k.held out_old) (k.held out_new) o is wrote)
+    (some_output IsWhole wanted (bytes_given s given given) (k.held out_old) (k.held out_new) o is wrote)
     said.1
     (calm_cause IsWhole (k.held out_old) (k.held out_new) (s.faults given) (s.faults given) (k.faults out_old) (k.faults out_new) o wrote cause)
     (some_stops IsWhole (k.held out_old) (k.held out_new) (s.faults given) (s.faults given) (s.has_failed given) o wrote refl)
@@ -96,20 +95,20 @@ did_number s k wanted IsWhole given out_old out_new o is answer reads wrote caus
 -- ---- uses that read a recording
 
 pub did_frames : {S K P : Type 0} (s : reading.Ghosts S) (k : writing.Ghosts K P) (source_old source_new : S) (out_old out_new : K) (o : Outcome)
-    → TellsMisfit (Ok Frames) o → IfSome (s.left source_old) (λ bytes. ExplainsImages bytes o) → Reads Frames (s.left source_old) (s.left source_new) → ReadToEnd Frames (s.left source_new) o
-    → DeliversImages (s.left source_old) (k.held out_old) (k.held out_new) o → MayAnswer Frames o
+    → TellsMisfit (Ok Frames) o → ExplainsImages (bytes_given s source_old source_new) o → Reads Frames (s.given source_old) (s.given source_new) → ReadToEnd Frames (s.has_ended source_new) o
+    → DeliversImages (bytes_given s source_old source_new) (k.held out_old) (k.held out_new) o → MayAnswer Frames o
     → Causes (s.faults source_old) (s.faults source_new) (k.faults out_old) (k.faults out_new) o → StopsAtFault (s.faults source_old) (s.faults source_new) (s.has_failed source_new) o
     → Did s k (Ok Frames) source_old source_new out_old out_new o
 did_frames s k source_old source_new out_old out_new o words input reads end output answers cause stops =
-    did s k Frames source_old source_new out_old out_new o words (frames_input (s.left source_old) o input) reads end (frames_output (s.left source_old) (k.held out_old) (k.held out_new) o output) answers cause stops
+    did s k Frames source_old source_new out_old out_new o words (frames_input (bytes_given s source_old source_new) o input) reads end (frames_output (bytes_given s source_old source_new) (k.held out_old) (k.held out_new) o output) answers cause stops
 
 pub did_check : {S K P : Type 0} (s : reading.Ghosts S) (k : writing.Ghosts K P) (source_old source_new : S) (out : K) (o : Outcome)
-    → TellsMisfit (Ok Check) o → IfSome (s.left source_old) (λ bytes. ExplainsJudgement bytes o) → Reads Check (s.left source_old) (s.left source_new) → ReadToEnd Check (s.left source_new) o
+    → TellsMisfit (Ok Check) o → ExplainsJudgement (bytes_given s source_old source_new) o → Reads Check (s.given source_old) (s.given source_new) → ReadToEnd Check (s.has_ended source_new) o
     → IsSilent o → MayAnswer Check o
     → Causes (s.faults source_old) (s.faults source_new) (k.faults out) (k.faults out) o → StopsAtFault (s.faults source_old) (s.faults source_new) (s.has_failed source_new) o
     → Did s k (Ok Check) source_old source_new out out o
 did_check s k source_old source_new out o words input reads end silent answers cause stops =
-    did s k Check source_old source_new out out o words (check_input (s.left source_old) o input) reads end (nothing_written (s.left source_old) (k.held out) o silent) answers cause stops
+    did s k Check source_old source_new out out o words (check_input (bytes_given s source_old source_new) o input) reads end (nothing_written (bytes_given s source_old source_new) (k.held out) o silent) answers cause stops
 
 -- ---- sessions
 
@@ -121,11 +120,11 @@ nothing_more : (held : Option (List ℕ)) → Appends held held []
 nothing_more None = tt
 nothing_more (Some xs) = sym (append-nil xs)
 
-nothing_put : (workers : ℕ) (left held : Option (List ℕ)) (o : Outcome) → Writes (Serve workers) left held held o
-nothing_put workers left held Done = ([], refl, nothing_more held)
-nothing_put workers left held WriteFault = ([], refl, ([], [], refl, nothing_more held))
-nothing_put workers left held Memory = inl refl
-nothing_put workers left held _ = refl
+nothing_put : (workers : ℕ) (bytes : List ℕ) (held : Option (List ℕ)) (o : Outcome) → Writes (Serve workers) bytes held held o
+nothing_put workers bytes held Done = ([], refl, nothing_more held)
+nothing_put workers bytes held WriteFault = ([], refl, ([], [], refl, nothing_more held))
+nothing_put workers bytes held Memory = inl refl
+nothing_put workers bytes held _ = refl
 
 pub did_serve : {S K P : Type 0} (s : reading.Ghosts S) (k : writing.Ghosts K P) (workers : ℕ) (given : S) (out : K) (o : Outcome) → AnswersSession o → Did s k (Ok (Serve workers)) given given out out o
 did_serve s k workers given out o answers = record {
@@ -134,21 +133,13 @@ did_serve s k workers given out o answers = record {
   input = answers;
   reads = refl;
   end = tt;
-  output = nothing_put workers (s.left given) (k.held out) o;
+  output = nothing_put workers (bytes_given s given given) (k.held out) o;
   answers = answers;
   cause = tt;
   stops = tt;
   complete = tt;
 }
 
--- with no client nothing passes
-pub nothing_passed : {C : Type 0} (c : client.Ghosts C) (wanted : Use) (session : Session C) (o : Outcome) → needs_more wanted ≡ false → Passes c (Ok wanted) session session o
-nothing_passed c (Step workers) session o alone = refl
-nothing_passed c (Gen number) session o alone = refl
-nothing_passed c (Demo number) session o alone = refl
-nothing_passed c (Film workers) session o alone = refl
-nothing_passed c (Shot workers) session o alone = refl
-nothing_passed c Frames session o alone = refl
-nothing_passed c Check session o alone = refl
-nothing_passed c (Play workers) session o alone = refl
-nothing_passed c (Serve workers) session o alone = absurd (false≢true (sym alone))
+-- what passed with the client where the words are `serve N`
+pub served : {C : Type 0} (c : client.Ghosts C) (asked : Result Use ℕ) (workers : ℕ) (old new : Session C) (o : Outcome) → asked ≡ Ok (Serve workers) → Passes c asked old new o → Serves workers (c.past old.client) (c.past new.client) o
+served c asked workers old new o is passes = (subst (λ (a : Result Use ℕ). Passes c a old new o) is passes).0

@@ -11,7 +11,7 @@ use Rattle.player_uses.specs.Outputs.{WritesSome}
 use Rattle.player_run.specs.Runs.{IsOutput, IsBegun, Writes}
 
 -- what a use writes in all, it was writing
-begun_is : (wanted : Use) (source : Option (List ℕ)) (whole : List ℕ) → IsOutput wanted source whole → IsBegun wanted source whole
+begun_is : (wanted : Use) (source whole : List ℕ) → IsOutput wanted source whole → IsBegun wanted source whole
 begun_is (Step workers) source whole is = is
 begun_is (Play workers) source whole (s, from, (h, played, is)) = (s, from, (h, played.sound, is))
 begun_is (Gen number) source whole is = is
@@ -23,7 +23,7 @@ begun_is Check source whole is = is
 begun_is (Serve workers) source whole is = is
 
 -- the sink gained what the use writes
-pub some_output : (P : List ℕ → Type 0) (wanted : Use) (source old new : Option (List ℕ)) (o : Outcome) → ((whole : List ℕ) → P whole → IsOutput wanted source whole) → WritesSome P old new o → Writes wanted source old new o
+pub some_output : (P : List ℕ → Type 0) (wanted : Use) (source : List ℕ) (old new : Option (List ℕ)) (o : Outcome) → ((whole : List ℕ) → P whole → IsOutput wanted source whole) → WritesSome P old new o → Writes wanted source old new o
 some_output P wanted source old new Done is wrote = (wrote.0, is wrote.0 wrote.1, wrote.2)
 some_output P wanted source old new WriteFault is wrote = (wrote.0, begun_is wanted source wrote.0 (is wrote.0 wrote.1), wrote.2)
 some_output P wanted source old new Memory is (inl same) = inl same
@@ -43,7 +43,7 @@ nothing_more : (held : Option (List ℕ)) → Appends held held []
 nothing_more None = tt
 nothing_more (Some xs) = sym (append-nil xs)
 
-pub nothing_written : (source held : Option (List ℕ)) (o : Outcome) → IsSilent o → Writes Check source held held o
+pub nothing_written : (source : List ℕ) (held : Option (List ℕ)) (o : Outcome) → IsSilent o → Writes Check source held held o
 nothing_written source held Done silent = ([], refl, nothing_more held)
 nothing_written source held WriteFault silent = absurd silent
 nothing_written source held Memory silent = inl refl

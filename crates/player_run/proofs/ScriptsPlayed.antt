@@ -1,13 +1,11 @@
 -- What was written of a script that was read is what its source asked for.
 use Rattle.std.proofs.Common.{◌≡◌, ◌+◌, ℕ, ◌≤◌, Bool, List, length, None, Some, Ok, Err, inl, inr, refl, subst}
-use Rattle.std.specs.Prelude.{Option, IfSome}
-use Rattle.std.specs.Io.KnownBytes.{IsAtEnd}
+use Rattle.std.specs.Prelude.{Option, true}
 use Rattle.byte_io.specs.declared.reading.Source as reading
 use Rattle.byte_io.specs.declared.writing.Sink as writing
 use Rattle.model_history.specs.Accepted.{IsAccepted}
 use Rattle.model_history.specs.Scripts.{ScriptModel}
 use Rattle.script_json.specs.Causes.{IsScriptText}
-use Rattle.script_json.proofs.CanonicalTexts as canonical
 use Rattle.player_uses.specs.declared.outcome.Outcome.{Outcome}
 use Rattle.player_uses.specs.declared.outcome.Outcome.TheVariants.{Done, Usage, Json, Shape, Script, ReadFault, WriteFault, TooLong, BadRecording, No, Memory, NoPicture}
 use Rattle.player_uses.specs.declared.words.Use.{Use}
@@ -15,11 +13,11 @@ use Rattle.player_uses.specs.declared.words.Use.TheVariants.{Step, Play, Gen, De
 use Rattle.player_uses.specs.Answers.{TellsMisfit, AnswersScript, AnswersShot, MayAnswer}
 use Rattle.player_uses.specs.Faults.{Causes, StopsAtFault, RefusedBy}
 use Rattle.player_uses.specs.Outputs.{WritesSome, WritesOrBegins}
-use Rattle.player_uses.specs.Reading.{IsJudgedWhole, Reads, ReadToEnd, TakenAtMost}
+use Rattle.player_uses.specs.Reading.{IsJudgedWhole, Reads, ReadToEnd, GivenAtMost}
 use Rattle.player_uses.specs.Refusals.{script_limit, RefusedScript}
 use Rattle.player_uses.specs.Scripts.{IsNoneOf, IsStopped}
 use Rattle.player_uses.specs.Shots.{with_shot}
-use Rattle.player_run.specs.Ran.{Did}
+use Rattle.player_run.specs.Ran.{bytes_given, Did}
 use Rattle.player_run.specs.Runs.{Takes, Refused, RefusedShot, CauseOf, CauseFrom, IsScriptFrom, IsOutput, IsBegun, Writes}
 use Rattle.player_run.specs.inner.Plays.{PlaysScript, script_played, IsWritten, IsStarted, LacksPicture, Plays, IsReadFor}
 use Rattle.player_run.specs.inner.Shots.{Shoots}
@@ -85,12 +83,8 @@ shot_plays workers s old new Memory wrote = wrote
 
 -- ---- a script that was read
 
-text_of : (source : Option (List ℕ)) (s : ScriptModel) → IfSome source (λ bytes. (length bytes ≤ script_limit) × IsScriptText bytes s) → IfSome source (λ bytes. IsScriptText bytes s)
-text_of None s t = t
-text_of (Some bytes) s t = t.1
-
-from_of : (source : Option (List ℕ)) (s : ScriptModel) → IsAccepted s → IfSome source (λ bytes. (length bytes ≤ script_limit) × IsScriptText bytes s) → IsScriptFrom source s
-from_of source s accepted text = (canonical.said s accepted, accepted.commands, text_of source s text)
+from_of : (bytes : List ℕ) (s : ScriptModel) → IsAccepted s → (length bytes ≤ script_limit) × IsScriptText bytes s → IsScriptFrom bytes s
+from_of bytes s accepted text = (text.1, accepted.commands)
 
 -- of which something was written is what the use takes
 takes : (wanted : Use) (said : ScriptModel) (bytes whole : List ℕ) → PlaysScript wanted → IsAccepted said → length bytes ≤ script_limit → IsScriptText bytes said → IsStarted wanted (script_played wanted said) whole → Takes wanted bytes
@@ -132,7 +126,7 @@ explained wanted said bytes old new (BadRecording place) plays accepted few text
 explained wanted said bytes old new (No event) plays accepted few text wrote = absurd wrote
 
 -- what is said of a source's bytes, of a use that plays its script
-input_of : (wanted : Use) (source : Option (List ℕ)) (o : Outcome) → PlaysScript wanted → IfSome source (λ bytes. CauseOf wanted bytes o) → CauseFrom wanted source o
+input_of : (wanted : Use) (source : List ℕ) (o : Outcome) → PlaysScript wanted → CauseOf wanted source o → CauseFrom wanted source o
 input_of (Step workers) source o plays is = is
 input_of (Play workers) source o plays is = is
 input_of (Film workers) source o plays is = is
@@ -143,13 +137,8 @@ input_of Frames source o plays is = is
 input_of Check source o plays is = is
 input_of (Serve workers) source o plays is = absurd plays
 
-some_explained : (wanted : Use) (said : ScriptModel) (source old new : Option (List ℕ)) (o : Outcome) → PlaysScript wanted → IsAccepted said → IfSome source (λ bytes. (length bytes ≤ script_limit) × IsScriptText bytes said)
-    → Plays wanted (script_played wanted said) old new o → IfSome source (λ bytes. CauseOf wanted bytes o)
-some_explained wanted said None old new o plays accepted text wrote = tt
-some_explained wanted said (Some bytes) old new o plays accepted text wrote = explained wanted said bytes old new o plays accepted text.0 text.1 wrote
-
 -- what was written is what the use writes
-written : (wanted : Use) (said : ScriptModel) (source : Option (List ℕ)) (whole : List ℕ) → PlaysScript wanted → IsScriptFrom source said → IsWritten wanted (script_played wanted said) whole → IsOutput wanted source whole
+written : (wanted : Use) (said : ScriptModel) (source whole : List ℕ) → PlaysScript wanted → IsScriptFrom source said → IsWritten wanted (script_played wanted said) whole → IsOutput wanted source whole
 written (Step workers) said source whole plays from is = (said, from, is)
 written (Play workers) said source whole plays from is = (said, from, is)
 written (Film workers) said source whole plays from is = (said, from, is)
@@ -160,7 +149,7 @@ written Frames said source whole plays from is = absurd plays
 written Check said source whole plays from is = absurd plays
 written (Serve workers) said source whole plays from is = absurd plays
 
-begun : (wanted : Use) (said : ScriptModel) (source : Option (List ℕ)) (whole : List ℕ) → PlaysScript wanted → IsScriptFrom source said → IsStarted wanted (script_played wanted said) whole → IsBegun wanted source whole
+begun : (wanted : Use) (said : ScriptModel) (source whole : List ℕ) → PlaysScript wanted → IsScriptFrom source said → IsStarted wanted (script_played wanted said) whole → IsBegun wanted source whole
 begun (Step workers) said source whole plays from is = (said, from, is)
 begun (Play workers) said source whole plays from is = (said, from, is)
 begun (Film workers) said source whole plays from is = (said, from, is)
@@ -171,7 +160,7 @@ begun Frames said source whole plays from is = absurd plays
 begun Check said source whole plays from is = absurd plays
 begun (Serve workers) said source whole plays from is = absurd plays
 
-output_of : (wanted : Use) (said : ScriptModel) (source old new : Option (List ℕ)) (o : Outcome) → PlaysScript wanted → IsScriptFrom source said → Plays wanted (script_played wanted said) old new o → Writes wanted source old new o
+output_of : (wanted : Use) (said : ScriptModel) (source : List ℕ) (old new : Option (List ℕ)) (o : Outcome) → PlaysScript wanted → IsScriptFrom source said → Plays wanted (script_played wanted said) old new o → Writes wanted source old new o
 output_of wanted said source old new Done plays from (whole, is, gains) = (whole, written wanted said source whole plays from is, gains)
 output_of wanted said source old new WriteFault plays from (whole, is, gains) = (whole, begun wanted said source whole plays from is, gains)
 output_of wanted said source old new Memory plays from (inl same) = inl same
@@ -229,7 +218,7 @@ answers_of Check s old new o plays wrote = absurd plays
 answers_of (Serve workers) s old new o plays wrote = absurd plays
 
 -- how much was read
-reads_of : (wanted : Use) (old new : Option (List ℕ)) → PlaysScript wanted → TakenAtMost (script_limit + 1) old new → Reads wanted old new
+reads_of : (wanted : Use) (old new : List ℕ) → PlaysScript wanted → GivenAtMost (script_limit + 1) old new → Reads wanted old new
 reads_of (Step workers) old new plays most = most
 reads_of (Play workers) old new plays most = most
 reads_of (Film workers) old new plays most = most
@@ -240,35 +229,35 @@ reads_of Frames old new plays most = absurd plays
 reads_of Check old new plays most = absurd plays
 reads_of (Serve workers) old new plays most = absurd plays
 
-end_of : (wanted : Use) (left : Option (List ℕ)) (o : Outcome) → PlaysScript wanted → IsJudgedWhole left o → ReadToEnd wanted left o
-end_of (Step workers) left o plays whole = whole
-end_of (Play workers) left o plays whole = whole
-end_of (Film workers) left o plays whole = whole
-end_of (Shot workers) left o plays whole = whole
-end_of (Gen number) left o plays whole = absurd plays
-end_of (Demo number) left o plays whole = absurd plays
-end_of Frames left o plays whole = absurd plays
-end_of Check left o plays whole = absurd plays
-end_of (Serve workers) left o plays whole = absurd plays
+end_of : (wanted : Use) (ended : Bool) (o : Outcome) → PlaysScript wanted → IsJudgedWhole ended o → ReadToEnd wanted ended o
+end_of (Step workers) ended o plays whole = whole
+end_of (Play workers) ended o plays whole = whole
+end_of (Film workers) ended o plays whole = whole
+end_of (Shot workers) ended o plays whole = whole
+end_of (Gen number) ended o plays whole = absurd plays
+end_of (Demo number) ended o plays whole = absurd plays
+end_of Frames ended o plays whole = absurd plays
+end_of Check ended o plays whole = absurd plays
+end_of (Serve workers) ended o plays whole = absurd plays
 
-judged_whole : (left : Option (List ℕ)) (o : Outcome) → IsAtEnd left → IsJudgedWhole left o
-judged_whole left (Usage word) whole = tt
-judged_whole left ReadFault whole = tt
-judged_whole left (TooLong limit) whole = tt
-judged_whole left Memory whole = tt
-judged_whole left _ whole = whole
+judged_whole : (ended : Bool) (o : Outcome) → ended ≡ true → IsJudgedWhole ended o
+judged_whole ended (Usage word) whole = tt
+judged_whole ended ReadFault whole = tt
+judged_whole ended (TooLong limit) whole = tt
+judged_whole ended Memory whole = tt
+judged_whole ended _ whole = whole
 
 pub did_play : {S K P : Type 0} (s : reading.Ghosts S) (k : writing.Ghosts K P) (wanted : Use) (source_old source_new : S) (out_old out_new : K) (script : ScriptModel) (o : Outcome)
-    → PlaysScript wanted → IsReadFor wanted (s.left source_old) (s.left source_new) script → TakenAtMost (script_limit + 1) (s.left source_old) (s.left source_new) → s.faults source_new ≡ s.faults source_old
+    → PlaysScript wanted → IsReadFor wanted (bytes_given s source_old source_new) (s.has_ended source_new) script → GivenAtMost (script_limit + 1) (s.given source_old) (s.given source_new) → s.faults source_new ≡ s.faults source_old
     → Plays wanted script (k.held out_old) (k.held out_new) o → Causes 0 0 (k.faults out_old) (k.faults out_new) o → Did s k (Ok wanted) source_old source_new out_old out_new o
 did_play s k wanted source_old source_new out_old out_new script o plays read most calm wrote cause =
     let played : Plays wanted (script_played wanted read.said) (k.held out_old) (k.held out_new) o = subst (λ (z : ScriptModel). Plays wanted z (k.held out_old) (k.held out_new) o) read.asked wrote in
     did s k wanted source_old source_new out_old out_new o
     (words_of wanted script (k.held out_old) (k.held out_new) o wrote)
-    (input_of wanted (s.left source_old) o plays (some_explained wanted read.said (s.left source_old) (k.held out_old) (k.held out_new) o plays read.accepted read.text played))
-    (reads_of wanted (s.left source_old) (s.left source_new) plays most)
-    (end_of wanted (s.left source_new) o plays (judged_whole (s.left source_new) o read.whole))
-    (output_of wanted read.said (s.left source_old) (k.held out_old) (k.held out_new) o plays (from_of (s.left source_old) read.said read.accepted read.text) played)
+    (input_of wanted (bytes_given s source_old source_new) o plays (explained wanted read.said (bytes_given s source_old source_new) (k.held out_old) (k.held out_new) o plays read.accepted read.text.0 read.text.1 played))
+    (reads_of wanted (s.given source_old) (s.given source_new) plays most)
+    (end_of wanted (s.has_ended source_new) o plays (judged_whole (s.has_ended source_new) o read.whole))
+    (output_of wanted read.said (bytes_given s source_old source_new) (k.held out_old) (k.held out_new) o plays (from_of (bytes_given s source_old source_new) read.said read.accepted read.text) played)
     (answers_of wanted script (k.held out_old) (k.held out_new) o plays wrote)
     (cause_of wanted script (k.held out_old) (k.held out_new) (s.faults source_old) (s.faults source_new) (k.faults out_old) (k.faults out_new) o wrote cause)
     (stops_of wanted script (k.held out_old) (k.held out_new) (s.faults source_old) (s.faults source_new) (s.has_failed source_new) o wrote calm)
@@ -314,15 +303,11 @@ unread wanted bytes (BadRecording place) plays stopped none = refused_of wanted 
 unread wanted bytes (No event) plays stopped none = refused_of wanted bytes (No event) plays none
 unread wanted bytes NoPicture plays stopped none = refused_of wanted bytes NoPicture plays none
 
-some_unread : (wanted : Use) (source : Option (List ℕ)) (o : Outcome) → PlaysScript wanted → IsStopped o → IfSome source (λ bytes. IsNoneOf bytes o) → IfSome source (λ bytes. CauseOf wanted bytes o)
-some_unread wanted None o plays stopped none = tt
-some_unread wanted (Some bytes) o plays stopped none = unread wanted bytes o plays stopped none
-
 stopped_words : (wanted : Use) (o : Outcome) → IsStopped o → TellsMisfit (Ok wanted) o
 stopped_words wanted (Usage word) stopped = absurd stopped
 stopped_words wanted _ stopped = tt
 
-stopped_output : (wanted : Use) (source held : Option (List ℕ)) (o : Outcome) → IsStopped o → Writes wanted source held held o
+stopped_output : (wanted : Use) (source : List ℕ) (held : Option (List ℕ)) (o : Outcome) → IsStopped o → Writes wanted source held held o
 stopped_output wanted source held Done stopped = absurd stopped
 stopped_output wanted source held WriteFault stopped = absurd stopped
 stopped_output wanted source held Memory stopped = inl refl
@@ -359,16 +344,16 @@ stopped_answers Check o plays answers = absurd plays
 stopped_answers (Serve workers) o plays answers = absurd plays
 
 pub did_stop : {S K P : Type 0} (s : reading.Ghosts S) (k : writing.Ghosts K P) (wanted : Use) (source_old source_new : S) (out : K) (o : Outcome)
-    → PlaysScript wanted → IfSome (s.left source_old) (λ bytes. IsNoneOf bytes o) × IsJudgedWhole (s.left source_new) o × IsStopped o → TakenAtMost (script_limit + 1) (s.left source_old) (s.left source_new)
+    → PlaysScript wanted → IsNoneOf (bytes_given s source_old source_new) o × IsJudgedWhole (s.has_ended source_new) o × IsStopped o → GivenAtMost (script_limit + 1) (s.given source_old) (s.given source_new)
     → RefusedBy {X = ScriptModel} (s.faults source_old) (s.faults source_new) (Err o) → AnswersScript o → StopsAtFault (s.faults source_old) (s.faults source_new) (s.has_failed source_new) o
     → Did s k (Ok wanted) source_old source_new out out o
 did_stop s k wanted source_old source_new out o plays (none, whole, stopped) most cause answers stops =
     did s k wanted source_old source_new out out o
     (stopped_words wanted o stopped)
-    (input_of wanted (s.left source_old) o plays (some_unread wanted (s.left source_old) o plays stopped none))
-    (reads_of wanted (s.left source_old) (s.left source_new) plays most)
-    (end_of wanted (s.left source_new) o plays whole)
-    (stopped_output wanted (s.left source_old) (k.held out) o stopped)
+    (input_of wanted (bytes_given s source_old source_new) o plays (unread wanted (bytes_given s source_old source_new) o plays stopped none))
+    (reads_of wanted (s.given source_old) (s.given source_new) plays most)
+    (end_of wanted (s.has_ended source_new) o plays whole)
+    (stopped_output wanted (bytes_given s source_old source_new) (k.held out) o stopped)
     (stopped_answers wanted o plays answers)
     (stopped_cause (s.faults source_old) (s.faults source_new) (k.faults out) (k.faults out) o stopped cause)
     stops

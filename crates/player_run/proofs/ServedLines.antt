@@ -9,7 +9,6 @@ use Rattle.player_lines.proofs.Telling.{gained, quiet_told, went_then}
 use Rattle.model_history.specs.Accepted.{IsAccepted}
 use Rattle.model_history.specs.Scripts.{ScriptModel}
 use Rattle.script_json.specs.Causes.{IsScriptText}
-use Rattle.script_json.proofs.CanonicalTexts.{said}
 use Rattle.player_uses.specs.declared.outcome.Outcome.{Outcome}
 use Rattle.player_uses.specs.declared.outcome.Outcome.TheVariants.{Done, Usage, Json, Shape, Script, ReadFault, WriteFault, TooLong, BadRecording, No, Memory, NoPicture}
 use Rattle.player_uses.specs.declared.words.Use.TheVariants.{Step}
@@ -27,7 +26,7 @@ joined pieces = flat_map (λ (piece : List ℕ). piece) pieces
 -- ---- a line that is refused
 
 abbrev IsTold : ℕ → List ℕ → Outcome → Type 0
-IsTold workers line result = EndsLine result × CauseOf (Step workers) line result × Writes (Step workers) (Some line) (Some []) (Some []) result
+IsTold workers line result = EndsLine result × CauseOf (Step workers) line result × Writes (Step workers) line (Some []) (Some []) result
 
 pub none_told : (workers : ℕ) (line : List ℕ) (result : Outcome) → IsNone line result → IsTold workers line result
 none_told workers line Done none = absurd none
@@ -59,15 +58,15 @@ IsOf workers line s = (length line ≤ script_limit) × IsScriptText line s × I
 
 -- the data that went since a quiet past, with what step N says of it
 abbrev HasDone : ℕ → List ℕ → List Act → Bool → Outcome → List Act → Type 0
-HasDone workers line h torn result m = (front : List ℕ) × Spoke h torn front m × Writes (Step workers) (Some line) (Some []) (Some front) result
+HasDone workers line h torn result m = (front : List ℕ) × Spoke h torn front m × Writes (Step workers) line (Some []) (Some front) result
 
 has_done : (h : List Act) (torn : Bool) (mid : Option (List Act)) (front : List ℕ) (Q : List Act → Type 0)
     → ((m : List Act) → Spoke h torn front m → Q m) → Has (Spoke h torn front) mid → Has Q mid
 has_done h torn None front Q f is = is
 has_done h torn (Some m) front Q f is = f m is
 
-output : (workers : ℕ) (line whole : List ℕ) (s : ScriptModel) → IsOf workers line s → IsRunOf workers s whole → IsOutput (Step workers) (Some line) whole
-output workers line whole s is run = (s, (said s is.2, is.2.commands, is.1), run)
+output : (workers : ℕ) (line whole : List ℕ) (s : ScriptModel) → IsOf workers line s → IsRunOf workers s whole → IsOutput (Step workers) line whole
+output workers line whole s is run = (s, (is.1, is.2.commands), run)
 
 -- what went since is data that a line may have where there was no memory for more
 part_done : (workers : ℕ) (line : List ℕ) (s : ScriptModel) (h : List Act) (torn : Bool) (mid : Option (List Act)) (o : Outcome) → IsOf workers line s → IsQuiet h
@@ -100,8 +99,8 @@ part_done workers line s h torn mid NoPicture is quiet wrote = absurd wrote
 
 -- what a line may have of data
 moved : (workers : ℕ) (line front : List ℕ) (pieces : List (List ℕ)) (result : Outcome) → joined pieces ≡ front
-    → Writes (Step workers) (Some line) (Some []) (Some front) result → Writes (Step workers) (Some line) (Some []) (Some (joined pieces)) result
-moved workers line front pieces result same is = subst (λ (x : List ℕ). Writes (Step workers) (Some line) (Some []) (Some x) result) (sym same) is
+    → Writes (Step workers) line (Some []) (Some front) result → Writes (Step workers) line (Some []) (Some (joined pieces)) result
+moved workers line front pieces result same is = subst (λ (x : List ℕ). Writes (Step workers) line (Some []) (Some x) result) (sym same) is
 
 -- the client failed: what went is a prefix of an answer
 failed_by : {E : Type 0} (workers number : ℕ) (line : List ℕ) (h : List Act) (torn : Bool) (mid : Option (List Act)) (e : E) → Has (HasDone workers line h torn Memory) mid

@@ -1,6 +1,5 @@
 -- What is written in all is a legal recording.
 use Rattle.std.proofs.Common.{ℕ, ◌≤◌, List, [], ◌∷◌, ◌++◌, ap, sym, ◌∙◌, subst}
-use Rattle.std.specs.Prelude.{Option}
 use Rattle.model_history.specs.Accepted.{IsAccepted}
 use Rattle.model_history.specs.declared.event.Event.TheVariants as event
 use Rattle.model_history.specs.declared.history.Entry.{Entry}
@@ -14,9 +13,9 @@ use Rattle.recording_check.proofs.WrittenRuns.{written_is_legal}
 use Rattle.player_uses.specs.declared.words.Use.TheVariants.{Step, Play}
 use Rattle.player_run.specs.Runs.{IsScriptFrom, IsPlayOf, IsOutput}
 
--- what some JSON value says, and whose main frames the blank page takes, is accepted
-accepted_of : (source : Option (List ℕ)) (s : ScriptModel) → IsScriptFrom source s → IsAccepted s
-accepted_of source s ((d, says), taken, had) = record { ranges = parts_are_in_ranges d s says; commands = taken }
+-- what a text says, and whose main frames the blank page takes, is accepted
+accepted_of : (bytes : List ℕ) (s : ScriptModel) → IsScriptFrom bytes s → IsAccepted s
+accepted_of bytes s ((d, text, says), taken) = record { ranges = parts_are_in_ranges d s says; commands = taken }
 
 play_is_legal : (workers : ℕ) (s : ScriptModel) (whole : List ℕ) → workers ≤ 16 → IsAccepted s → IsPlayOf workers s whole → IsLegalRecording 16 whole
 play_is_legal workers s whole few accepted (history, played, is) =
@@ -24,8 +23,8 @@ play_is_legal workers s whole few accepted (history, played, is) =
     let legal : IsLegal s workers (before ++ record { actor = 0; event = event.End } ∷ []) = subst (IsLegal s workers) played.ends.1 played.sound.legal in
     subst (IsLegalRecording 16) (sym (one_recording_of s history whole is ∙ ap (recording s) played.ends.1)) (written_is_legal s workers before accepted few legal)
 
-pub played_is_legal : (workers : ℕ) (source : Option (List ℕ)) (whole : List ℕ) → workers ≤ 16 → IsOutput (Play workers) source whole → IsLegalRecording 16 whole
-played_is_legal workers source whole few (s, from, played) = play_is_legal workers s whole few (accepted_of source s from) played
+pub played_is_legal : (workers : ℕ) (bytes whole : List ℕ) → workers ≤ 16 → IsOutput (Play workers) bytes whole → IsLegalRecording 16 whole
+played_is_legal workers bytes whole few (s, from, played) = play_is_legal workers s whole few (accepted_of bytes s from) played
 
-pub stepped_is_legal : (workers : ℕ) (source : Option (List ℕ)) (whole : List ℕ) → workers ≤ 16 → IsOutput (Step workers) source whole → IsLegalRecording 16 whole
-stepped_is_legal workers source whole few (s, from, (history, promised, is)) = play_is_legal workers s whole few (accepted_of source s from) (history, promised.played, is)
+pub stepped_is_legal : (workers : ℕ) (bytes whole : List ℕ) → workers ≤ 16 → IsOutput (Step workers) bytes whole → IsLegalRecording 16 whole
+stepped_is_legal workers bytes whole few (s, from, (history, promised, is)) = play_is_legal workers s whole few (accepted_of bytes s from) (history, promised.played, is)

@@ -24,7 +24,7 @@ HasEnded history = (before : List Entry) × (history ≡ before ++ record { acto
 
 -- a scroller stands right after a past, along an axis
 pub record StandsRight (s : ScriptModel) (h : List Entry) (sc : ℕ) (ax : Axis) : Type 0 where
-  -- at the sum of the main moves of the committed frames up to the active one and of all accepted moves
+  -- at the sum of the main moves of the committed frames up to the active one and of all accepted moves; this holds of every past, legal or not, by the definition of an offset
   pub sum : offset s h sc ax ≡ main_moves s (pulls_of h) (was_named commits h) sc ax (up_to (active h)) +ℤ all_moved s h sc ax
   -- where the five scroll values say that are kept entry by entry, each entry taking its step of their table: at base and delta of the active tree
   pub stepwise : offset s h sc ax ≡ active_value (values s sc ax h)

@@ -1,5 +1,6 @@
 -- What a run of the program does, from its words to the line that tells how it ended.
-use Rattle.std.specs.Prelude.{◌≡◌, ℕ, Result, Ok, IfOk, OnErr}
+use Rattle.std.specs.Prelude.{◌≡◌, ℕ, List, Result, Ok, IfOk, OnErr}
+use Rattle.byte_io.specs.Logs.{since}
 use Rattle.byte_io.specs.declared.reading.Source as source
 use Rattle.byte_io.specs.declared.writing.Sink as sink
 use Rattle.player_lines.specs.declared.client.Client as client
@@ -15,32 +16,36 @@ use Rattle.player_run.specs.declared.streams.Streams.{Streams}
 use Rattle.player_run.specs.Runs.{CauseFrom, Writes, IsComplete, UnlessServe}
 use Rattle.player_run.specs.Served.{Serves, ServeCause}
 
+-- the bytes that a source gave meanwhile
+abbrev pub bytes_given : {S : Type 0} → source.Ghosts S → S → S → List ℕ
+bytes_given s old new = since (s.given old) (s.given new)
+
 -- what a run did with its source and its sink, as its words asked, and how it ended
 pub record Did {S K P : Type 0} (s : source.Ghosts S) (k : sink.Ghosts K P) (asked : Result Use ℕ) (source_old source_new : S) (out_old out_new : K) (result : Outcome) : Type 0 where
   -- the answer is Usage exactly if some word fits no use, and names the first such word
   pub words : TellsMisfit asked result
   -- then nothing was read and nothing written
   pub untouched : OnErr asked ((source_new ≡ source_old) × (out_new ≡ out_old))
-  -- what the answer says of the bytes that the source had: they are what the use takes, or are refused for this cause
-  pub input : IfOk asked (λ wanted. CauseFrom wanted (s.left source_old) result)
+  -- what the answer says of the bytes that the source gave: they are what the use takes, or are refused for this cause
+  pub input : IfOk asked (λ wanted. CauseFrom wanted (bytes_given s source_old source_new) result)
   -- one byte beyond the limit was read at most, or nothing
-  pub reads : IfOk asked (λ wanted. Reads wanted (s.left source_old) (s.left source_new))
-  -- bytes that were judged were read to their end
-  pub end : IfOk asked (λ wanted. ReadToEnd wanted (s.left source_new) result)
+  pub reads : IfOk asked (λ wanted. Reads wanted (s.given source_old) (s.given source_new))
+  -- bytes were judged only if the source had said that no more come
+  pub end : IfOk asked (λ wanted. ReadToEnd wanted (s.has_ended source_new) result)
   -- what the sink gained: all that the use writes, a prefix of it, or nothing
-  pub output : IfOk asked (λ wanted. Writes wanted (s.left source_old) (k.held out_old) (k.held out_new) result)
-  -- each use has answers of its own, whatever its source tells
+  pub output : IfOk asked (λ wanted. Writes wanted (bytes_given s source_old source_new) (k.held out_old) (k.held out_new) result)
+  -- each use has answers of its own
   pub answers : IfOk asked (λ wanted. MayAnswer wanted result)
   -- a fault of source or sink is answered only if that one's count of faults rose
   pub cause : UnlessServe asked (Causes (s.faults source_old) (s.faults source_new) (k.faults out_old) (k.faults out_new) result)
   -- a source that failed is not read again; after any other answer than its fault no read failed
   pub stops : UnlessServe asked (StopsAtFault (s.faults source_old) (s.faults source_new) (s.has_failed source_new) result)
   -- if the bytes are what the use takes and no count of faults rose, all is done or there was no memory
-  pub complete : IfOk asked (λ wanted. IsComplete wanted (s.left source_old) (s.faults source_old) (s.faults source_new) (k.faults out_old) (k.faults out_new) result)
+  pub complete : IfOk asked (λ wanted. IsComplete wanted (bytes_given s source_old source_new) (s.faults source_old) (s.faults source_new) (k.faults out_old) (k.faults out_new) result)
 
 -- what passed with the client of a session: for `serve N` what it promises; for other words nothing
 abbrev pub Passes : {C : Type 0} → client.Ghosts C → Result Use ℕ → Session C → Session C → Outcome → Type 0
-Passes c (Ok (Serve workers)) old new result = Serves workers (c.past old.client) (c.past new.client) result × ServeCause (c.faults old.client) (c.faults new.client) new.torn result
+Passes c (Ok (Serve workers)) old new result = Serves workers (c.past old.client) (c.past new.client) result × ServeCause (c.has_failed new.client) (c.put_faults old.client) (c.put_faults new.client) new.torn result
 Passes c _ old new result = new ≡ old
 
 -- a run, by which its streams came from the old ones to the new

@@ -1,5 +1,5 @@
 -- What a run of the program does with its words, its input and its output.
-use Rattle.std.specs.Prelude.{◌≡◌, ℕ, ◌≤◌, ◌⊎◌, List, [], ◌++◌, length, codes, ⊤, Option, Some, None, IfSome, Result, Ok}
+use Rattle.std.specs.Prelude.{◌≡◌, ℕ, ◌≤◌, ◌⊎◌, List, [], ◌++◌, length, codes, ⊤, Option, Some, None, Result, Ok}
 use Rattle.std.specs.Io.KnownBytes.{Appends}
 use Rattle.byte_io.specs.Counts.{Rose}
 use Rattle.byte_io.specs.Pieces.{GainsPrefix}
@@ -8,7 +8,7 @@ use Rattle.model_history.specs.Frames.{blank}
 use Rattle.model_history.specs.Accepted.{TakesFrames}
 use Rattle.model_history.specs.declared.history.Entry.{Entry}
 use Rattle.model_history.specs.Lockstep.{IsLockstep}
-use Rattle.script_json.specs.Causes.{IsSaid, IsScriptText}
+use Rattle.script_json.specs.Causes.{IsScriptText}
 use Rattle.script_json.specs.Recordings.{IsRecordingOf, script_text}
 use Rattle.player_lockstep.specs.Films.{IsLockstepFilm, IsLastImage}
 use Rattle.player_lockstep.specs.Shots.{IsShot}
@@ -59,7 +59,7 @@ Refused Frames bytes result = RefusedRecording bytes result
 Refused Check bytes result = RefusedHistory bytes result
 Refused (Serve workers) bytes result = ⊥
 
--- why this is the answer of a use if the source has these bytes: after Done and after a write fault they are what the use takes; after a refusal they are refused for that cause; after a read fault and out of memory nothing is said of them
+-- why this is the answer of a use if the source gave these bytes: after Done and after a write fault they are what the use takes; after a refusal they are refused for that cause; after a read fault and out of memory nothing is said of them
 abbrev pub CauseOf : Use → List ℕ → Outcome → Type 0
 CauseOf wanted bytes Done = Takes wanted bytes
 CauseOf wanted bytes WriteFault = Takes wanted bytes
@@ -68,16 +68,16 @@ CauseOf wanted bytes ReadFault = ⊤
 CauseOf wanted bytes Memory = ⊤
 CauseOf wanted bytes result = Refused wanted bytes result
 
--- why this is the answer of a use: one that reads, by the bytes that its source tells; one that reads nothing is done, meets a write fault, or runs out of memory
-abbrev pub CauseFrom : Use → Option (List ℕ) → Outcome → Type 0
-CauseFrom (Gen number) source result = IsUnread result
-CauseFrom (Demo number) source result = IsUnread result
-CauseFrom (Serve workers) source result = AnswersSession result
-CauseFrom wanted source result = IfSome source (λ bytes. CauseOf wanted bytes result)
+-- why this is the answer of a use: one that reads, by the bytes that its source gave; one that reads nothing is done, meets a write fault, or runs out of memory
+abbrev pub CauseFrom : Use → List ℕ → Outcome → Type 0
+CauseFrom (Gen number) bytes result = IsUnread result
+CauseFrom (Demo number) bytes result = IsUnread result
+CauseFrom (Serve workers) bytes result = AnswersSession result
+CauseFrom wanted bytes result = CauseOf wanted bytes result
 
--- a script that is accepted, as some JSON value says it and the blank page takes its main frames, and that the source had, if it tells its bytes
-abbrev pub IsScriptFrom : Option (List ℕ) → ScriptModel → Type 0
-IsScriptFrom source s = IsSaid s × TakesFrames (blank s) s.main × IfSome source (λ bytes. IsScriptText bytes s)
+-- these bytes are the text of the script, and it is accepted: the blank page takes its main frames
+abbrev pub IsScriptFrom : List ℕ → ScriptModel → Type 0
+IsScriptFrom bytes s = IsScriptText bytes s × TakesFrames (blank s) s.main
 
 -- the recording of a script and of its history, as it is promised for the given number of raster workers
 abbrev pub IsRunOf : ℕ → ScriptModel → List ℕ → Type 0
@@ -96,41 +96,41 @@ abbrev pub IsDemoOf : ScriptModel → List ℕ → Type 0
 IsDemoOf s whole = (history : List Entry) × IsLockstep s history × (whole ≡ demo_line s history)
 
 -- what a use writes in all: the recording of the script; the canonical text of a number's script, and a newline; the line that sums up its recording; the images of a script's run; the file of the last image of its shot; the images of the recording; or nothing, as a session writes to its client
-abbrev pub IsOutput : Use → Option (List ℕ) → List ℕ → Type 0
-IsOutput (Step workers) source whole = (s : ScriptModel) × IsScriptFrom source s × IsRunOf workers s whole
-IsOutput (Play workers) source whole = (s : ScriptModel) × IsScriptFrom source s × IsPlayOf workers s whole
-IsOutput (Gen number) source whole = whole ≡ script_text (script_of_number number) ++ codes "\n"
-IsOutput (Demo number) source whole = IsDemoOf (script_of_number number) whole
-IsOutput (Film workers) source whole = (s : ScriptModel) × IsScriptFrom source s × IsLockstepFilm s whole
-IsOutput (Shot workers) source whole = (s : ScriptModel) × IsScriptFrom source s × IsShot (with_shot s) (Some whole)
-IsOutput Frames source whole = AreImagesFrom source whole
-IsOutput Check source whole = whole ≡ []
-IsOutput (Serve workers) source whole = whole ≡ []
+abbrev pub IsOutput : Use → List ℕ → List ℕ → Type 0
+IsOutput (Step workers) bytes whole = (s : ScriptModel) × IsScriptFrom bytes s × IsRunOf workers s whole
+IsOutput (Play workers) bytes whole = (s : ScriptModel) × IsScriptFrom bytes s × IsPlayOf workers s whole
+IsOutput (Gen number) bytes whole = whole ≡ script_text (script_of_number number) ++ codes "\n"
+IsOutput (Demo number) bytes whole = IsDemoOf (script_of_number number) whole
+IsOutput (Film workers) bytes whole = (s : ScriptModel) × IsScriptFrom bytes s × IsLockstepFilm s whole
+IsOutput (Shot workers) bytes whole = (s : ScriptModel) × IsScriptFrom bytes s × IsShot (with_shot s) (Some whole)
+IsOutput Frames bytes whole = AreImagesFrom bytes whole
+IsOutput Check bytes whole = whole ≡ []
+IsOutput (Serve workers) bytes whole = whole ≡ []
 
 -- what a use was writing when it stopped: all that it writes; but actors may have given a run up before its end
-abbrev pub IsBegun : Use → Option (List ℕ) → List ℕ → Type 0
-IsBegun (Play workers) source whole = (s : ScriptModel) × IsScriptFrom source s × IsPlayUpTo workers s whole
-IsBegun wanted source whole = IsOutput wanted source whole
+abbrev pub IsBegun : Use → List ℕ → List ℕ → Type 0
+IsBegun (Play workers) bytes whole = (s : ScriptModel) × IsScriptFrom bytes s × IsPlayUpTo workers s whole
+IsBegun wanted bytes whole = IsOutput wanted bytes whole
 
 -- what the sink gained: after Done all that the use writes; after a write fault a prefix of what it was writing; after out of memory such a prefix or nothing; after every other answer nothing
-abbrev pub Writes : Use → Option (List ℕ) → Option (List ℕ) → Option (List ℕ) → Outcome → Type 0
-Writes wanted source old new Done = (whole : List ℕ) × IsOutput wanted source whole × Appends old new whole
-Writes wanted source old new WriteFault = (whole : List ℕ) × IsBegun wanted source whole × GainsPrefix old new whole
-Writes wanted source old new Memory = (new ≡ old) ⊎ ((whole : List ℕ) × IsBegun wanted source whole × GainsPrefix old new whole)
-Writes wanted source old new _ = new ≡ old
+abbrev pub Writes : Use → List ℕ → Option (List ℕ) → Option (List ℕ) → Outcome → Type 0
+Writes wanted bytes old new Done = (whole : List ℕ) × IsOutput wanted bytes whole × Appends old new whole
+Writes wanted bytes old new WriteFault = (whole : List ℕ) × IsBegun wanted bytes whole × GainsPrefix old new whole
+Writes wanted bytes old new Memory = (new ≡ old) ⊎ ((whole : List ℕ) × IsBegun wanted bytes whole × GainsPrefix old new whole)
+Writes wanted bytes old new _ = new ≡ old
 
 -- if neither count of faults rose, all is done or there was no memory
 abbrev pub IsDoneIfCalm : ℕ → ℕ → ℕ → ℕ → Outcome → Type 0
 IsDoneIfCalm source_old source_new out_old out_new result =
     (Rose source_old source_new → ⊥) → (Rose out_old out_new → ⊥) → (result ≡ Done) ⊎ (result ≡ Memory)
 
--- if the bytes are what a use takes and neither count of faults rose, the answer is Done or Memory
-abbrev pub IsComplete : Use → Option (List ℕ) → ℕ → ℕ → ℕ → ℕ → Outcome → Type 0
-IsComplete (Gen number) source source_old source_new out_old out_new result = IsDoneIfCalm source_old source_new out_old out_new result
-IsComplete (Demo number) source source_old source_new out_old out_new result = IsDoneIfCalm source_old source_new out_old out_new result
-IsComplete (Serve workers) source source_old source_new out_old out_new result = ⊤
-IsComplete wanted source source_old source_new out_old out_new result =
-    IfSome source (λ bytes. Takes wanted bytes → IsDoneIfCalm source_old source_new out_old out_new result)
+-- if the bytes that the source gave are what a use takes and neither count of faults rose, the answer is Done or Memory
+abbrev pub IsComplete : Use → List ℕ → ℕ → ℕ → ℕ → ℕ → Outcome → Type 0
+IsComplete (Gen number) bytes source_old source_new out_old out_new result = IsDoneIfCalm source_old source_new out_old out_new result
+IsComplete (Demo number) bytes source_old source_new out_old out_new result = IsDoneIfCalm source_old source_new out_old out_new result
+IsComplete (Serve workers) bytes source_old source_new out_old out_new result = ⊤
+IsComplete wanted bytes source_old source_new out_old out_new result =
+    Takes wanted bytes → IsDoneIfCalm source_old source_new out_old out_new result
 
 -- what is said of source and sink, unless the words are `serve N`: a session has a client
 abbrev pub UnlessServe : Result Use ℕ → Type 0 → Type 0

@@ -1,5 +1,5 @@
 -- What `serve N` answers a line, and what a session with a client was.
-use Rattle.std.specs.Prelude.{◌≡◌, ℕ, Bool, List, [], ◌++◌, flat_map, ⊤, Option, Some}
+use Rattle.std.specs.Prelude.{◌≡◌, ℕ, Bool, true, List, [], ◌++◌, flat_map, ⊤, Option, Some}
 use Rattle.player_lines.specs.Sessions.{Act, AtOnce, IsAnswered, IsBegun, IsEnded, frame, Has, HasFailed, IsNew}
 use Rattle.player_uses.specs.declared.outcome.Outcome.{Outcome}
 use Rattle.player_uses.specs.declared.outcome.Outcome.TheVariants.{Done, Json, Shape, Script, ReadFault, WriteFault, TooLong, Memory}
@@ -17,12 +17,12 @@ EndsLine (TooLong limit) = ⊤
 EndsLine Memory = ⊤
 EndsLine _ = ⊥
 
--- an answer to the line of a number: what `step N` writes if its source has this line, in frames, and its outcome
+-- an answer to the line of a number: what `step N` writes if its source gives this line, in frames, and its outcome
 abbrev pub IsLineAnswer : ℕ → ℕ → List ℕ → List ℕ → Type 0
 IsLineAnswer workers number line text =
     (result : Outcome) × (pieces : List (List ℕ))
     × EndsLine result × CauseOf (Step workers) line result
-    × Writes (Step workers) (Some line) (Some []) (Some (flat_map (λ piece. piece) pieces)) result
+    × Writes (Step workers) line (Some []) (Some (flat_map (λ piece. piece) pieces)) result
     × (text ≡ flat_map frame pieces ++ verdict number result)
 
 -- what was answered, by how a session ended: all lines; all that came whole, if the client could not be read; some first ones, the last of them maybe in part, if it took no more
@@ -37,8 +37,8 @@ AnsweredTo workers _ h = ⊥
 abbrev pub Serves : ℕ → Option (List Act) → Option (List Act) → Outcome → Type 0
 Serves workers old new result = IsNew old → Has (λ h. AtOnce (IsLineAnswer workers) h × AnsweredTo workers result h) new
 
--- a fault of the client is answered only if a call of it failed
-abbrev pub ServeCause : ℕ → ℕ → Bool → Outcome → Type 0
-ServeCause old new torn ReadFault = HasFailed old new torn
-ServeCause old new torn WriteFault = HasFailed old new torn
-ServeCause old new torn _ = ⊤
+-- a read fault is answered only if the last read of the client failed, a write fault only if a put did
+abbrev pub ServeCause : Bool → ℕ → ℕ → Bool → Outcome → Type 0
+ServeCause failed old new torn ReadFault = failed ≡ true
+ServeCause failed old new torn WriteFault = HasFailed old new torn
+ServeCause failed old new torn _ = ⊤

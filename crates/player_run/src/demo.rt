@@ -20,7 +20,7 @@ use std::thread::Threads;
 fn play_summed<R: Threads + Sync>(rt: &R, alloc: Global, script: Arc<Script>) -> Option<Summary>
     ensures { IfSome result (IsDemoSummary script.value) }
 {
-    let mut sink = SumSink::new(alloc).ok()?;
+    let mut sink = SumSink::new();
     match record_lockstep(rt, alloc, script, 1, Retention::All, &mut sink) {
         Ok(run) => summary_of(run.history(), &sink),
         Err(_) => None,

@@ -1,133 +1,115 @@
 //! The words, the input and the output of one run.
 
-ghost use Rattle.std.specs.Prelude.{◌≡◌, Ok, is_err, is_none, IfErr, IfNone, IfOk, IfSome, map, string_bytes};
-ghost use Rattle.player_uses.specs.Words.{IsFew, asks_more, needs_more, use_of as use_in};
-ghost use Rattle.player_run.specs.Ran.{Did, Ran};
-ghost use Rattle.player_run.specs.inner.Others.{use_of_other};
+ghost use Rattle.std.specs.Prelude.{◌≡◌, true, Ok, is_none, IfNone, IfSome, map, string_bytes};
+ghost use Rattle.player_uses.specs.Words.{IsFew, asks_play, is_play, use_of as use_in};
+ghost use Rattle.player_run.specs.Ran.{Did, Passes, Ran};
 
 use crate::demo::run_demo;
 use crate::filmed::run_film;
-use crate::not_alone::NotAlone;
 use crate::play::run_play;
 use crate::serving::serve;
 use crate::shot::run_shot;
 use crate::step::run_step;
 use crate::streams::Streams;
 use byte_io::{Gate, Sink, Source};
-use player_lines::Client;
-use player_uses::{Outcome, Use, run_check, run_frames, run_gen, tell, use_of};
+use player_lines::{Client, Session};
+use player_uses::{Outcome, Use, players, run_check, run_frames, run_gen, tell, use_of};
 use std::alloc::Global;
 use std::marker::Send;
 use std::sync::Wait;
 use std::thread::Threads;
 
-// Does a use, but for the line to the notes; or hands it back, and then nothing was read and nothing written.
-fn run_use<R: Threads + Sync, S: Source, K: Sink>(
+// Does a use, but for the line to the notes. None if it is `play N`; then nothing was read and nothing written.
+fn run_use<R: Threads + Sync, S: Source, K: Sink, C: Client>(
     rt: &R,
     alloc: Global,
     wanted: Use,
     source: &mut S,
     out: &mut K,
-) -> Result<Outcome, NotAlone>
+    session: &mut Session<C>,
+) -> Option<Outcome>
     requires { IsFew wanted }
-    ensures did { IfOk result (Did S.Source K.Sink (Ok wanted) source.old source.new out.old out.new) }
-    ensures alone { is_err result ≡ needs_more wanted }
-    ensures other { IfErr result (λ other. wanted ≡ use_of_other other) }
-    ensures idle { IfErr result (λ _. (source.new ≡ source.old) × (out.new ≡ out.old)) }
+    ensures did { IfSome result (Did S.Source K.Sink (Ok wanted) source.old source.new out.old out.new) }
+    ensures serves { IfSome result (Passes C.Client (Ok wanted) session.old session.new) }
+    ensures none { is_none result ≡ is_play wanted }
+    ensures idle { IfNone result ((source.new ≡ source.old) × (out.new ≡ out.old) × (session.new ≡ session.old)) }
 {
     match wanted {
-        Use::Step { workers } => Ok(run_step(rt, alloc, workers, source, out)),
-        Use::Play { workers } => Err(NotAlone::Play { workers }),
-        Use::Gen { number } => Ok(run_gen(alloc, number, out)),
-        Use::Demo { number } => Ok(run_demo(rt, alloc, number, out)),
-        Use::Film { workers } => Ok(run_film(rt, alloc, workers, source, out)),
-        Use::Shot { workers } => Ok(run_shot(rt, alloc, workers, source, out)),
-        Use::Frames => Ok(run_frames(alloc, source, out)),
-        Use::Check => Ok(run_check(alloc, source)),
-        Use::Serve { workers } => Err(NotAlone::Serve { workers }),
+        Use::Step { workers } => Some(run_step(rt, alloc, workers, source, out)),
+        Use::Play { .. } => None,
+        Use::Gen { number } => Some(run_gen(alloc, number, out)),
+        Use::Demo { number } => Some(run_demo(rt, alloc, number, out)),
+        Use::Film { workers } => Some(run_film(rt, alloc, workers, source, out)),
+        Use::Shot { workers } => Some(run_shot(rt, alloc, workers, source, out)),
+        Use::Frames => Some(run_frames(alloc, source, out)),
+        Use::Check => Some(run_check(alloc, source)),
+        Use::Serve { workers } => Some(serve(rt, alloc, workers, session)),
     }
 }
 
-// Does what the words ask for; or answers the use that needs more, and then nothing was read and nothing written.
-fn run_words<R: Threads + Sync, S: Source, K: Sink, E: Sink, C: Client>(
-    rt: &R,
-    alloc: Global,
-    words: &[String],
-    streams: &mut Streams<S, K, E, C>,
-) -> Result<Outcome, NotAlone>
-    ensures ran { IfOk result (Ran S.Source K.Sink E.Sink C.Client (use_in (map string_bytes words.now)) streams.old streams.new) }
-    ensures alone { is_err result ≡ asks_more (use_in (map string_bytes words.now)) }
-    ensures other { IfErr result (λ other. use_in (map string_bytes words.now) ≡ Ok (use_of_other other)) }
-    ensures few { IfErr result (λ other. IsFew (use_of_other other)) }
-    ensures idle { IfErr result (λ _. streams.new ≡ streams.old) }
-{
-    match use_of(words) {
-        Err(word) => {
-            let outcome = Outcome::Usage { word };
-            tell(&mut streams.notes, outcome);
-            Ok(outcome)
-        }
-        Ok(wanted) => match run_use(rt, alloc, wanted, &mut streams.source, &mut streams.out) {
-            Ok(outcome) => {
-                tell(&mut streams.notes, outcome);
-                Ok(outcome)
-            }
-            Err(other) => Err(other),
-        },
-    }
-}
-
-// Does a use that needs more.
-fn run_other<
-    R: Threads + Wait + Sync,
-    S: Source,
-    K: Sink + Send,
-    E: Sink,
-    C: Client,
-    G: Gate + Sync,
->(rt: &R, alloc: Global, other: NotAlone, streams: &mut Streams<S, K, E, C>, gate: &G) -> Outcome
-    requires { IsFew (use_of_other other) }
-    ensures { Ran S.Source K.Sink E.Sink C.Client (Ok (use_of_other other)) streams.old streams.new result }
-{
-    match other {
-        NotAlone::Play { workers } => {
-            let outcome = run_play(
-                rt,
-                alloc,
-                workers,
-                &mut streams.source,
-                &mut streams.out,
-                gate,
-            );
-            tell(&mut streams.notes, outcome);
-            outcome
-        }
-        NotAlone::Serve { workers } => {
-            let outcome = serve(rt, alloc, workers, &mut streams.session);
-            tell(&mut streams.notes, outcome);
-            outcome
-        }
-    }
-}
-
-/// Runs the program for all words but `play N` and `serve N`, with all that [`run`] promises, and returns: it may start
-/// threads, but is given nothing by which it could wait without end.
+/// Runs the program for all words but `play N`, with all that [`run`] promises. It may start threads, but is given
+/// nothing by which it could wait without end: it returns if the source, the sinks, the client and the threads that it
+/// starts do.
 ///
-/// None if the words are one of these; then nothing was read and nothing was written, to the notes neither.
+/// None if the words are `play N`; then nothing was read and nothing was written, to the notes and the client neither.
 pub fn run_alone<R: Threads + Sync, S: Source, K: Sink, E: Sink, C: Client>(
     rt: &R,
     alloc: Global,
     words: &[String],
     streams: &mut Streams<S, K, E, C>,
 ) -> Option<Outcome>
-    ensures none { is_none result ≡ asks_more (use_in (map string_bytes words.now)) }
+    ensures none { is_none result ≡ asks_play (use_in (map string_bytes words.now)) }
     ensures idle { IfNone result (streams.new ≡ streams.old) }
     ensures ran { IfSome result (Ran S.Source K.Sink E.Sink C.Client (use_in (map string_bytes words.now)) streams.old streams.new) }
 {
-    match run_words(rt, alloc, words, streams) {
-        Ok(outcome) => Some(outcome),
-        Err(_) => None,
+    match use_of(words) {
+        Err(word) => {
+            let outcome = Outcome::Usage { word };
+            tell(&mut streams.notes, outcome);
+            Some(outcome)
+        }
+        Ok(wanted) => match run_use(
+            rt,
+            alloc,
+            wanted,
+            &mut streams.source,
+            &mut streams.out,
+            &mut streams.session,
+        ) {
+            Some(outcome) => {
+                tell(&mut streams.notes, outcome);
+                Some(outcome)
+            }
+            None => None,
+        },
     }
+}
+
+/// Runs the program for `play N`, with all that [`run`] promises: by actors on threads, so it may wait.
+pub fn run_played<
+    R: Threads + Wait + Sync,
+    S: Source,
+    K: Sink + Send,
+    E: Sink,
+    C: Client,
+    G: Gate + Sync,
+>(rt: &R, alloc: Global, words: &[String], streams: &mut Streams<S, K, E, C>, gate: &G) -> Outcome
+    requires { asks_play (use_in (map string_bytes words.now)) ≡ true }
+    ensures { Ran S.Source K.Sink E.Sink C.Client (use_in (map string_bytes words.now)) streams.old streams.new result }
+{
+    let Some(workers) = players(words) else {
+        unreachable!()
+    };
+    let outcome = run_play(
+        rt,
+        alloc,
+        workers,
+        &mut streams.source,
+        &mut streams.out,
+        gate,
+    );
+    tell(&mut streams.notes, outcome);
+    outcome
 }
 
 /// Runs the program: does what the words ask with the bytes of the source, writes to the sink `out`, and tells
@@ -149,7 +131,7 @@ pub fn run_alone<R: Threads + Sync, S: Source, K: Sink, E: Sink, C: Client>(
 /// the limit, and what the bytes are: JSON, a script, one whose commands are all taken; or a recording.
 /// Before any of them nothing is written to `out`. The outcome's line goes to the notes; what they
 /// answer changes no outcome. The raster workers of `play` pass `gate` between the start of a tile and its end.
-/// For `play N` it may wait; all other words but `serve N` are done by [`run_alone`], which can't.
+/// For `play N`, done by [`run_played`], it may wait; all other words are done by [`run_alone`], which can't.
 pub fn run<R: Threads + Wait + Sync, S: Source, K: Sink + Send, E: Sink, C: Client, G: Gate + Sync>(
     rt: &R,
     alloc: Global,
@@ -159,8 +141,8 @@ pub fn run<R: Threads + Wait + Sync, S: Source, K: Sink + Send, E: Sink, C: Clie
 ) -> Outcome
     ensures { Ran S.Source K.Sink E.Sink C.Client (use_in (map string_bytes words.now)) streams.old streams.new result }
 {
-    match run_words(rt, alloc, words, streams) {
-        Ok(outcome) => outcome,
-        Err(other) => run_other(rt, alloc, other, streams, gate),
+    match run_alone(rt, alloc, words, streams) {
+        Some(outcome) => outcome,
+        None => run_played(rt, alloc, words, streams, gate),
     }
 }

@@ -30,8 +30,8 @@ impl LinePlayer {
         requires { session.old.torn ≡ false }
         ensures answered { (line : List ℕ) → length line ≤ script_limit → IsScriptText line script → IsAccepted script → Answered (IsLineAnswer self.now.workers number line) (C.past session.old.client) (C.past session.new.client) result }
         ensures whole { OnOk result (session.new.torn ≡ false) }
-        ensures grows { C.faults session.old.client ≤ C.faults session.new.client }
-        ensures cause { OnErr result (HasFailed (C.faults session.old.client) (C.faults session.new.client) session.new.torn) }
+        ensures grows { C.put_faults session.old.client ≤ C.put_faults session.new.client }
+        ensures cause { OnErr result (HasFailed (C.put_faults session.old.client) (C.put_faults session.new.client) session.new.torn) }
     {
         let outcome = play(rt, self.alloc, script, self.workers, session);
         if session.is_torn() {
@@ -95,8 +95,8 @@ pub fn serve<R: Threads + Sync, C: Client>(
     requires { (1 ≤ workers) × (workers ≤ 16) }
     ensures serves { Serves workers (C.past session.old.client) (C.past session.new.client) result }
     ensures answers { AnswersSession result }
-    ensures grows { C.faults session.old.client ≤ C.faults session.new.client }
-    ensures cause { ServeCause (C.faults session.old.client) (C.faults session.new.client) session.new.torn result }
+    ensures grows { C.put_faults session.old.client ≤ C.put_faults session.new.client }
+    ensures cause { ServeCause (C.has_failed session.new.client) (C.put_faults session.old.client) (C.put_faults session.new.client) session.new.torn result }
 {
     if session.is_torn() {
         return Outcome::WriteFault;

@@ -1,6 +1,7 @@
--- The script that a text says, asked for its picture, is that of its source.
-use Rattle.std.proofs.Common.{ℕ, ◌≤◌, List, length, Ok, Err}
-use Rattle.std.specs.Prelude.{Option, Result, IfSome}
+-- The script that a text says, or asked for its picture, is that of its source.
+use Rattle.std.proofs.Common.{ℕ, ◌≤◌, Bool, List, length, Ok, Err, sym, subst}
+use Rattle.std.specs.Prelude.{Result}
+use Rattle.byte_io.specs.Logs.{since}
 use Rattle.model_history.specs.Scripts.{ScriptModel}
 use Rattle.script_json.specs.Causes.{IsScriptText}
 use Rattle.player_uses.specs.declared.outcome.Outcome.{Outcome}
@@ -9,9 +10,8 @@ use Rattle.player_uses.specs.inner.Inputs.{ReadWhole}
 use Rattle.player_uses.specs.inner.Shots.{JudgedShot, ShotIn}
 use Rattle.player_uses.specs.Reading.{IsJudgedWhole}
 use Rattle.player_uses.specs.Refusals.{script_limit}
-use Rattle.player_uses.specs.Scripts.{IsNone, IsNoneOf, IsStopped}
+use Rattle.player_uses.specs.Scripts.{IsNone, IsNoneOf, IsStopped, ScriptIn, ScriptFrom}
 use Rattle.player_uses.specs.Shots.{ShotFrom}
-use Rattle.player_uses.proofs.Told.{told_of}
 
 -- a script whose parts the bytes say, or why it is refused
 pub shot_in : (bytes : List ℕ) (said : ScriptModel) (result : Result ScriptModel Outcome) → length bytes ≤ script_limit → IsScriptText bytes said → JudgedShot said result → ShotIn bytes result
@@ -30,13 +30,16 @@ shot_in bytes said (Err (No event)) few text judged = absurd judged
 shot_in bytes said (Err NoPicture) few text judged = absurd judged
 
 -- what the bytes of a source say that was read to its end
-module _ (old new : Option (List ℕ)) (bytes : List ℕ) (read : ReadWhole script_limit old new bytes) where
-  none_of : (o : Outcome) → IsNone bytes o → IfSome old (λ bytes. IsNoneOf bytes o) × IsJudgedWhole new o × IsStopped o
-  none_of Json none = (told_of (λ xs. IsNoneOf xs Json) old new bytes read.0 none, read.0.1, tt)
-  none_of (Shape fault) none = (told_of (λ xs. IsNoneOf xs (Shape fault)) old new bytes read.0 none, read.0.1, tt)
-  none_of (Script frame command fault) none = (told_of (λ xs. IsNoneOf xs (Script frame command fault)) old new bytes read.0 none, read.0.1, tt)
-  none_of (TooLong limit) none = (told_of (λ xs. IsNoneOf xs (TooLong limit)) old new bytes read.0 none, tt, tt)
-  none_of Memory none = (told_of (λ xs. IsNoneOf xs Memory) old new bytes read.0 tt, tt, tt)
+module _ (old new : List ℕ) (ended : Bool) (bytes : List ℕ) (read : ReadWhole script_limit old new ended bytes) where
+  given : (o : Outcome) → IsNoneOf bytes o → IsNoneOf (since old new) o
+  given o none = subst (λ (xs : List ℕ). IsNoneOf xs o) (sym read.0) none
+
+  none_of : (o : Outcome) → IsNone bytes o → IsNoneOf (since old new) o × IsJudgedWhole ended o × IsStopped o
+  none_of Json none = (given Json none, read.1, tt)
+  none_of (Shape fault) none = (given (Shape fault) none, read.1, tt)
+  none_of (Script frame command fault) none = (given (Script frame command fault) none, read.1, tt)
+  none_of (TooLong limit) none = (given (TooLong limit) none, tt, tt)
+  none_of Memory none = (tt, tt, tt)
   none_of Done none = absurd none
   none_of (Usage word) none = absurd none
   none_of ReadFault none = absurd none
@@ -45,12 +48,17 @@ module _ (old new : Option (List ℕ)) (bytes : List ℕ) (read : ReadWhole scri
   none_of (No event) none = absurd none
   none_of NoPicture none = absurd none
 
-  pub shot_from : (result : Result ScriptModel Outcome) → ShotIn bytes result → ShotFrom old new result
+  pub shot_from : (result : Result ScriptModel Outcome) → ShotIn bytes result → ShotFrom (since old new) ended result
   shot_from (Ok s) asked = record {
     said = asked.said;
-    text = told_of (λ xs. (length xs ≤ script_limit) × IsScriptText xs asked.said) old new bytes read.0 (read.1, asked.text);
+    text = subst (λ (xs : List ℕ). (length xs ≤ script_limit) × IsScriptText xs asked.said) (sym read.0) (read.2, asked.text);
     accepted = asked.accepted;
     asked = asked.asked;
-    whole = read.0.1;
+    whole = read.1;
   }
   shot_from (Err o) none = none_of o none
+
+  -- the script itself
+  pub script_from : (result : Result ScriptModel Outcome) → ScriptIn bytes result → ScriptFrom (since old new) ended result
+  script_from (Ok s) (text, accepted) = (subst (λ (xs : List ℕ). (length xs ≤ script_limit) × IsScriptText xs s) (sym read.0) (read.2, text), read.1, accepted)
+  script_from (Err o) none = none_of o none

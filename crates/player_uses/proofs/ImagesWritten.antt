@@ -1,6 +1,6 @@
 -- What was written of a recording is its images, and its source had it.
-use Rattle.std.proofs.Common.{◌≡◌, ℕ, List, None, Some, Ok, inr, sym, subst}
-use Rattle.std.specs.Prelude.{Option, IfSome}
+use Rattle.std.proofs.Common.{◌≡◌, ℕ, List, Ok, inr, sym, subst}
+use Rattle.std.specs.Prelude.{Option}
 use Rattle.player_uses.specs.declared.images.Images.{Images}
 use Rattle.player_uses.specs.declared.outcome.Outcome.{Outcome}
 use Rattle.player_uses.specs.declared.outcome.Outcome.TheVariants.{Done, Usage, Json, Shape, Script, ReadFault, WriteFault, TooLong, BadRecording, No, Memory, NoPicture}
@@ -10,45 +10,41 @@ use Rattle.player_uses.specs.Answers.{TellsMisfit}
 use Rattle.player_uses.specs.Outputs.{AreImagesFrom, DeliversImages}
 use Rattle.player_uses.specs.Refusals.{ExplainsImages, TakesRecording}
 
-output_of : (i : Images) (source : Option (List ℕ)) → HasImages i → IfSome source (λ bytes. bytes ≡ i.bytes.items) → AreImagesFrom source (images_of i)
-output_of i source has had = (i.bytes.items, had, has.recording.0, has.recording.1, has.recording.2, has.recording.3)
+output_of : (i : Images) (bytes : List ℕ) → HasImages i → bytes ≡ i.bytes.items → AreImagesFrom bytes (images_of i)
+output_of i bytes has had = subst (λ (xs : List ℕ). AreImagesFrom xs (images_of i)) (sym had) has.recording
 
 -- the sink gained the images
-pub images_output : (i : Images) (source old new : Option (List ℕ)) (o : Outcome) → HasImages i → IfSome source (λ bytes. bytes ≡ i.bytes.items) → WritesImages old new (images_of i) o → DeliversImages source old new o
-images_output i source old new Done has had wrote = (_, output_of i source has had, wrote)
-images_output i source old new WriteFault has had wrote = (_, output_of i source has had, wrote)
-images_output i source old new Memory has had wrote = inr (_, output_of i source has had, wrote)
-images_output i source old new (Usage word) has had wrote = absurd wrote
-images_output i source old new Json has had wrote = absurd wrote
-images_output i source old new (Shape fault) has had wrote = absurd wrote
-images_output i source old new (Script frame command why) has had wrote = absurd wrote
-images_output i source old new ReadFault has had wrote = absurd wrote
-images_output i source old new (TooLong limit) has had wrote = absurd wrote
-images_output i source old new (BadRecording place) has had wrote = absurd wrote
-images_output i source old new (No event) has had wrote = absurd wrote
-images_output i source old new NoPicture has had wrote = absurd wrote
+pub images_output : (i : Images) (bytes : List ℕ) (old new : Option (List ℕ)) (o : Outcome) → HasImages i → bytes ≡ i.bytes.items → WritesImages old new (images_of i) o → DeliversImages bytes old new o
+images_output i bytes old new Done has had wrote = (_, output_of i bytes has had, wrote)
+images_output i bytes old new WriteFault has had wrote = (_, output_of i bytes has had, wrote)
+images_output i bytes old new Memory has had wrote = inr (_, output_of i bytes has had, wrote)
+images_output i bytes old new (Usage word) has had wrote = absurd wrote
+images_output i bytes old new Json has had wrote = absurd wrote
+images_output i bytes old new (Shape fault) has had wrote = absurd wrote
+images_output i bytes old new (Script frame command why) has had wrote = absurd wrote
+images_output i bytes old new ReadFault has had wrote = absurd wrote
+images_output i bytes old new (TooLong limit) has had wrote = absurd wrote
+images_output i bytes old new (BadRecording place) has had wrote = absurd wrote
+images_output i bytes old new (No event) has had wrote = absurd wrote
+images_output i bytes old new NoPicture has had wrote = absurd wrote
 
 taken : (i : Images) (bytes : List ℕ) → HasImages i → bytes ≡ i.bytes.items → TakesRecording bytes
 taken i bytes has had = subst TakesRecording (sym had) (has.few, (has.recording.0, has.recording.1, has.recording.2))
 
-cause_in : (i : Images) (bytes : List ℕ) (old new : Option (List ℕ)) (o : Outcome) → HasImages i → bytes ≡ i.bytes.items → WritesImages old new (images_of i) o → ExplainsImages bytes o
-cause_in i bytes old new Done has had wrote = taken i bytes has had
-cause_in i bytes old new WriteFault has had wrote = taken i bytes has had
-cause_in i bytes old new Memory has had wrote = tt
-cause_in i bytes old new (Usage word) has had wrote = absurd wrote
-cause_in i bytes old new Json has had wrote = absurd wrote
-cause_in i bytes old new (Shape fault) has had wrote = absurd wrote
-cause_in i bytes old new (Script frame command why) has had wrote = absurd wrote
-cause_in i bytes old new ReadFault has had wrote = absurd wrote
-cause_in i bytes old new (TooLong limit) has had wrote = absurd wrote
-cause_in i bytes old new (BadRecording place) has had wrote = absurd wrote
-cause_in i bytes old new (No event) has had wrote = absurd wrote
-cause_in i bytes old new NoPicture has had wrote = absurd wrote
-
--- the source had a recording
-pub images_cause : (i : Images) (source old new : Option (List ℕ)) (o : Outcome) → HasImages i → IfSome source (λ bytes. bytes ≡ i.bytes.items) → WritesImages old new (images_of i) o → IfSome source (λ bytes. ExplainsImages bytes o)
-images_cause i None old new o has had wrote = tt
-images_cause i (Some bytes) old new o has had wrote = cause_in i bytes old new o has had wrote
+-- the source gave a recording
+pub images_cause : (i : Images) (bytes : List ℕ) (old new : Option (List ℕ)) (o : Outcome) → HasImages i → bytes ≡ i.bytes.items → WritesImages old new (images_of i) o → ExplainsImages bytes o
+images_cause i bytes old new Done has had wrote = taken i bytes has had
+images_cause i bytes old new WriteFault has had wrote = taken i bytes has had
+images_cause i bytes old new Memory has had wrote = tt
+images_cause i bytes old new (Usage word) has had wrote = absurd wrote
+images_cause i bytes old new Json has had wrote = absurd wrote
+images_cause i bytes old new (Shape fault) has had wrote = absurd wrote
+images_cause i bytes old new (Script frame command why) has had wrote = absurd wrote
+images_cause i bytes old new ReadFault has had wrote = absurd wrote
+images_cause i bytes old new (TooLong limit) has had wrote = absurd wrote
+images_cause i bytes old new (BadRecording place) has had wrote = absurd wrote
+images_cause i bytes old new (No event) has had wrote = absurd wrote
+images_cause i bytes old new NoPicture has had wrote = absurd wrote
 
 -- the words are no matter of it
 pub images_words : (old new : Option (List ℕ)) (whole : List ℕ) (o : Outcome) → WritesImages old new whole o → TellsMisfit (Ok Frames) o

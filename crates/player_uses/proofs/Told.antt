@@ -1,21 +1,19 @@
--- What a source gave is what it had.
-use Rattle.std.proofs.Common.{◌≡◌, ℕ, zero, suc, ◌+◌, ◌≤◌, List, [], ◌∷◌, ◌++◌, length, take, None, Some, ap, sym, ◌∙◌, arith, subst, append-nil, append_assoc, length-append}
-use Rattle.std.specs.Prelude.{Option, IfSome}
-use Rattle.std.specs.Io.KnownBytes.{Consumes, Keeps}
-use Rattle.player_uses.specs.inner.Inputs.{GaveAll}
-use Rattle.player_uses.specs.Reading.{TakenAtMost}
+-- What a source gave since a log.
+use Rattle.std.proofs.Common.{◌≡◌, ℕ, zero, suc, ◌+◌, ◌≤◌, List, [], ◌∷◌, ◌++◌, length, take, drop, refl, ap, sym, ◌∙◌, arith, append-nil, append_assoc, length-append}
+use Rattle.byte_io.specs.Logs.{Gave, since}
+use Rattle.player_uses.specs.Reading.{GivenAtMost}
 
--- what holds of the bytes that a source gave to its end holds of those that it had
-pub told_of : (P : List ℕ → Type 0) (old new : Option (List ℕ)) (bytes : List ℕ) → GaveAll old new bytes → P bytes → IfSome old P
-told_of P None new bytes gave p = tt
-told_of P (Some xs) None bytes gave p = absurd gave.0
-told_of P (Some xs) (Some ys) bytes gave p = subst P (sym (gave.0 ∙ ap (λ w. bytes ++ w) gave.1 ∙ append-nil bytes)) p
+past : (old bytes : List ℕ) → drop (length old) (old ++ bytes) ≡ bytes
+past [] bytes = refl
+past (x ∷ old) bytes = past old bytes
+
+-- the bytes that a log gained are those since
+pub whole_given : (old new bytes : List ℕ) → Gave old new bytes → since old new ≡ bytes
+whole_given old new bytes gave = ap (λ (l : List ℕ). drop (length old) l) gave ∙ past old bytes
 
 -- a source that was left as it was gave nothing
-pub took_nothing : (most : ℕ) (old new : Option (List ℕ)) → Keeps old new → TakenAtMost most old new
-took_nothing most None new kept = ([], tt, omega arith)
-took_nothing most (Some xs) None kept = absurd kept
-took_nothing most (Some xs) (Some ys) kept = ([], sym kept, omega arith)
+pub gave_nothing : (most : ℕ) (old new : List ℕ) → new ≡ old → GivenAtMost most old new
+gave_nothing most old new same = ([], same ∙ sym (append-nil old), omega arith)
 
 -- a prefix of a list is no longer than it
 take_short : (n : ℕ) (xs : List ℕ) → length (take n xs) ≤ length xs
@@ -30,18 +28,15 @@ take_few (suc n) [] = omega arith
 take_few (suc n) (x ∷ xs) = let rest = take_few n xs in omega (arith, rest)
 
 -- a prefix of a buffer was given
-pub took_front : (most n : ℕ) (old new : Option (List ℕ)) (buffer : List ℕ) → Consumes old new (take n buffer) → length buffer ≤ most → TakenAtMost most old new
-took_front most n old new buffer gave few = (take n buffer, gave, omega (arith, take_short n buffer, few))
+pub gave_front : (most n : ℕ) (old new buffer : List ℕ) → Gave old new (take n buffer) → length buffer ≤ most → GivenAtMost most old new
+gave_front most n old new buffer gave few = (take n buffer, gave, omega (arith, take_short n buffer, few))
 
 -- some bytes and then others are both
-pub took_both : (old mid new : Option (List ℕ)) (a b : List ℕ) → Consumes old mid a → Consumes mid new b → Consumes old new (a ++ b)
-took_both None mid new a b first second = tt
-took_both (Some xs) None new a b first second = absurd first
-took_both (Some xs) (Some ys) None a b first second = absurd second
-took_both (Some xs) (Some ys) (Some zs) a b first second = first ∙ ap (λ w. a ++ w) second ∙ sym (append_assoc a b zs)
+pub gave_both : (old mid new : List ℕ) (a b : List ℕ) → Gave old mid a → Gave mid new b → Gave old new (a ++ b)
+gave_both old mid new a b first second = second ∙ ap (λ (l : List ℕ). l ++ b) first ∙ append_assoc old a b
 
 -- a piece more, where there is room for it
-pub took_more : (limit most : ℕ) (old mid new : Option (List ℕ)) (bytes : List ℕ) → Consumes old mid bytes → TakenAtMost most mid new → length bytes + most ≤ limit + 1 → TakenAtMost (limit + 1) old new
-took_more limit most old mid new bytes first second few =
+pub gave_more : (limit most : ℕ) (old mid new bytes : List ℕ) → Gave old mid bytes → GivenAtMost most mid new → length bytes + most ≤ limit + 1 → GivenAtMost (limit + 1) old new
+gave_more limit most old mid new bytes first second few =
     let all : length (bytes ++ second.0) ≡ length bytes + length second.0 = length-append bytes second.0 in
-    (bytes ++ second.0, took_both old mid new bytes second.0 first second.1, omega (arith, all, second.2))
+    (bytes ++ second.0, gave_both old mid new bytes second.0 first second.1, omega (arith, all, second.2))

@@ -1,4 +1,4 @@
--- Which answers a use may give, whatever its source tells.
+-- Which answers a use may give.
 use Rattle.std.specs.Prelude.{◌≡◌, ℕ, ⊤, Result, Ok, Err}
 use Rattle.player_uses.specs.declared.outcome.Outcome.{Outcome}
 use Rattle.player_uses.specs.declared.outcome.Outcome.TheVariants.{Done, Usage, ReadFault, WriteFault, TooLong, BadRecording, No, Memory, NoPicture}
@@ -51,7 +51,7 @@ AnswersJudged WriteFault = ⊥
 AnswersJudged (No event) = ⊤
 AnswersJudged result = AnswersImages result
 
--- which answers a use may give at all, whatever its source tells
+-- which answers a use may give at all
 abbrev pub MayAnswer : Use → Outcome → Type 0
 MayAnswer (Step workers) result = AnswersScript result
 MayAnswer (Play workers) result = AnswersScript result

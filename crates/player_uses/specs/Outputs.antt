@@ -1,5 +1,5 @@
 -- What was written.
-use Rattle.std.specs.Prelude.{◌≡◌, ℕ, ◌⊎◌, List, Option, IfSome}
+use Rattle.std.specs.Prelude.{◌≡◌, ℕ, ◌⊎◌, List, Option}
 use Rattle.std.specs.Io.KnownBytes.{Appends}
 use Rattle.byte_io.specs.Pieces.{GainsPrefix}
 use Rattle.model_history.specs.Scripts.{ScriptModel}
@@ -8,17 +8,16 @@ use Rattle.recording_check.specs.Recordings.{IsRecording}
 use Rattle.player_uses.specs.declared.outcome.Outcome.{Outcome}
 use Rattle.player_uses.specs.declared.outcome.Outcome.TheVariants.{Done, WriteFault, Memory}
 
--- the images of a recording, in order, and the source had that recording, if it tells its bytes
-abbrev pub AreImagesFrom : Option (List ℕ) → List ℕ → Type 0
-AreImagesFrom source whole =
-    (bytes : List ℕ) × IfSome source (λ had. had ≡ bytes) × (s : ScriptModel) × (ps : List Piece) × IsRecording bytes s ps × (whole ≡ images_text ps)
+-- they are the images, in order, of the recording in these bytes
+abbrev pub AreImagesFrom : List ℕ → List ℕ → Type 0
+AreImagesFrom bytes whole = (s : ScriptModel) × (ps : List Piece) × IsRecording bytes s ps × (whole ≡ images_text ps)
 
--- what the sink gained by `frames`: the images of the recording that the source has; a prefix of them; or nothing
-abbrev pub DeliversImages : Option (List ℕ) → Option (List ℕ) → Option (List ℕ) → Outcome → Type 0
-DeliversImages source old new Done = (whole : List ℕ) × AreImagesFrom source whole × Appends old new whole
-DeliversImages source old new WriteFault = (whole : List ℕ) × AreImagesFrom source whole × GainsPrefix old new whole
-DeliversImages source old new Memory = (new ≡ old) ⊎ ((whole : List ℕ) × AreImagesFrom source whole × GainsPrefix old new whole)
-DeliversImages source old new _ = new ≡ old
+-- what the sink gained by `frames`: the images of the recording in the bytes that the source gave; a prefix of them; or nothing
+abbrev pub DeliversImages : List ℕ → Option (List ℕ) → Option (List ℕ) → Outcome → Type 0
+DeliversImages bytes old new Done = (whole : List ℕ) × AreImagesFrom bytes whole × Appends old new whole
+DeliversImages bytes old new WriteFault = (whole : List ℕ) × AreImagesFrom bytes whole × GainsPrefix old new whole
+DeliversImages bytes old new Memory = (new ≡ old) ⊎ ((whole : List ℕ) × AreImagesFrom bytes whole × GainsPrefix old new whole)
+DeliversImages bytes old new _ = new ≡ old
 
 -- ---- of a use that has read what it takes, so that no other answer comes
 

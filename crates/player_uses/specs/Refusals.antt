@@ -60,7 +60,7 @@ abbrev pub RefusedHistory : List ℕ → Outcome → Type 0
 RefusedHistory bytes (No event) = (length bytes ≤ recording_limit) × IsFirstWrongEvent 16 bytes event
 RefusedHistory bytes result = RefusedRecording bytes result
 
--- why this is the answer of `frames` if the source has these bytes
+-- why this is the answer of `frames` if the source gave these bytes
 abbrev pub ExplainsImages : List ℕ → Outcome → Type 0
 ExplainsImages bytes Done = TakesRecording bytes
 ExplainsImages bytes WriteFault = TakesRecording bytes
@@ -69,7 +69,7 @@ ExplainsImages bytes ReadFault = ⊤
 ExplainsImages bytes Memory = ⊤
 ExplainsImages bytes result = RefusedRecording bytes result
 
--- why this is the answer of `check` if the source has these bytes
+-- why this is the answer of `check` if the source gave these bytes
 abbrev pub ExplainsJudgement : List ℕ → Outcome → Type 0
 ExplainsJudgement bytes Done = TakesHistory bytes
 ExplainsJudgement bytes WriteFault = TakesHistory bytes

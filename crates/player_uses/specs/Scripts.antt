@@ -1,6 +1,5 @@
 -- A script on its way from the source.
-use Rattle.std.specs.Prelude.{◌≤◌, ℕ, List, length, ⊤, Option, IfSome, Result, Ok, Err}
-use Rattle.std.specs.Io.KnownBytes.{IsAtEnd}
+use Rattle.std.specs.Prelude.{◌≡◌, ◌≤◌, ℕ, Bool, true, List, length, ⊤, Result, Ok, Err}
 use Rattle.model_history.specs.Accepted.{IsAccepted}
 use Rattle.model_history.specs.Scripts.{ScriptModel}
 use Rattle.script_json.specs.Causes.{IsScriptText}
@@ -26,12 +25,12 @@ abbrev pub ScriptIn : List ℕ → Result ScriptModel Outcome → Type 0
 ScriptIn bytes (Ok s) = IsScriptText bytes s × IsAccepted s
 ScriptIn bytes (Err o) = IsNone bytes o
 
--- why there is no script in a source that has these bytes
+-- why there is no script in a source that gave these bytes
 abbrev pub IsNoneOf : List ℕ → Outcome → Type 0
 IsNoneOf bytes ReadFault = ⊤
 IsNoneOf bytes result = IsNone bytes result
 
--- the script in the bytes of a source, or why there is none
-abbrev pub ScriptFrom : Option (List ℕ) → Option (List ℕ) → Result ScriptModel Outcome → Type 0
-ScriptFrom old new (Ok s) = IfSome old (λ bytes. (length bytes ≤ script_limit) × IsScriptText bytes s) × IsAtEnd new × IsAccepted s
-ScriptFrom old new (Err o) = IfSome old (λ bytes. IsNoneOf bytes o) × IsJudgedWhole new o × IsStopped o
+-- the script in the bytes that a source gave, which said whether more come; or why there is none
+abbrev pub ScriptFrom : List ℕ → Bool → Result ScriptModel Outcome → Type 0
+ScriptFrom bytes ended (Ok s) = ((length bytes ≤ script_limit) × IsScriptText bytes s) × (ended ≡ true) × IsAccepted s
+ScriptFrom bytes ended (Err o) = IsNoneOf bytes o × IsJudgedWhole ended o × IsStopped o

@@ -1,6 +1,5 @@
 -- Scripts of which one picture is wanted.
-use Rattle.std.specs.Prelude.{◌≡◌, ◌≤◌, ℕ, zero, suc, List, [], ◌∷◌, length, Option, IfSome, Result, Ok, Err}
-use Rattle.std.specs.Io.KnownBytes.{IsAtEnd}
+use Rattle.std.specs.Prelude.{◌≡◌, ◌≤◌, ℕ, zero, suc, Bool, true, List, [], ◌∷◌, length, Result, Ok, Err}
 use Rattle.model_history.specs.declared.input.Input.{Input}
 use Rattle.model_history.specs.declared.input.Input.TheVariants.{Draw, Await, Settle}
 use Rattle.model_history.specs.Accepted.{IsAccepted}
@@ -42,15 +41,15 @@ with_inputs inputs s = record {
 abbrev pub with_shot : ScriptModel → ScriptModel
 with_shot s = with_inputs (shot_inputs (length s.main) s.inputs) s
 
--- a script that the bytes of a source said, asked for its picture, and nothing is left in the source
-pub record IsAskedFrom (old new : Option (List ℕ)) (s : ScriptModel) : Type 0 where
+-- a script that the bytes which a source gave say, asked for its picture, and the source said that no more come
+pub record IsAskedFrom (bytes : List ℕ) (ended : Bool) (s : ScriptModel) : Type 0 where
   pub said : ScriptModel
-  pub text : IfSome old (λ bytes. (length bytes ≤ script_limit) × IsScriptText bytes said)
+  pub text : (length bytes ≤ script_limit) × IsScriptText bytes said
   pub accepted : IsAccepted said
   pub asked : s ≡ with_shot said
-  pub whole : IsAtEnd new
+  pub whole : ended ≡ true
 
--- the script in the bytes of a source, asked for its picture; or why there is none
-abbrev pub ShotFrom : Option (List ℕ) → Option (List ℕ) → Result ScriptModel Outcome → Type 0
-ShotFrom old new (Ok s) = IsAskedFrom old new s
-ShotFrom old new (Err o) = IfSome old (λ bytes. IsNoneOf bytes o) × IsJudgedWhole new o × IsStopped o
+-- the script in the bytes that a source gave, asked for its picture; or why there is none
+abbrev pub ShotFrom : List ℕ → Bool → Result ScriptModel Outcome → Type 0
+ShotFrom bytes ended (Ok s) = IsAskedFrom bytes ended s
+ShotFrom bytes ended (Err o) = IsNoneOf bytes o × IsJudgedWhole ended o × IsStopped o

@@ -51,16 +51,15 @@ abbrev pub use_of : List (List ℕ) → Result Use ℕ
 use_of [] = Err 0
 use_of (w ∷ ws) = if bytes_eq w (codes "step") then with_number workers_in Step ws else after_other w ws
 
--- the use is `play N`, the only one that may wait without end, or `serve N`, the only one that talks with a client
-abbrev pub needs_more : Use → Bool
-needs_more (Play workers) = true
-needs_more (Serve workers) = true
-needs_more _ = false
+-- the use is `play N`, the only one that may wait without end
+abbrev pub is_play : Use → Bool
+is_play (Play workers) = true
+is_play _ = false
 
--- the words are those of one of them
-abbrev pub asks_more : Result Use ℕ → Bool
-asks_more (Ok wanted) = needs_more wanted
-asks_more (Err word) = false
+-- the words are those of `play N`
+abbrev pub asks_play : Result Use ℕ → Bool
+asks_play (Ok wanted) = is_play wanted
+asks_play (Err word) = false
 
 -- if it has raster workers, they are 1 to 16
 abbrev pub IsFew : Use → Type 0

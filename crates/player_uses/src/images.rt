@@ -1,6 +1,7 @@
 //! The images of a recording, written one after another.
 
-ghost use Rattle.std.specs.Prelude.{◌≡◌, ◌≤◌, length, flat_map, Ok, IfSome, IfErr};
+ghost use Rattle.std.specs.Prelude.{◌≡◌, ◌≤◌, length, flat_map, Ok, IfErr};
+ghost use Rattle.byte_io.specs.Logs.{since};
 ghost use Rattle.byte_io.specs.Pieces.{PutsAll, WriteCause};
 ghost use Rattle.recording_text.specs.Spans.{AreWithin, IsWithinBytes, span_bytes};
 ghost use Rattle.player_uses.specs.Answers.{TellsMisfit, AnswersImages, MayAnswer};
@@ -64,8 +65,8 @@ fn put_images<K: Sink>(out: &mut K, bytes: &[u8], spans: &[ImageSpan]) -> Result
 
 // Reads the source to its end, and finds the images in it.
 fn find_images<S: Source>(alloc: Global, source: &mut S) -> Result<Images, Outcome>
-    ensures images { RecordingFrom (S.left source.old) (S.left source.new) result }
-    ensures reads { Reads Use.Frames (S.left source.old) (S.left source.new) }
+    ensures images { RecordingFrom (since (S.given source.old) (S.given source.new)) (S.has_ended source.new) result }
+    ensures reads { Reads Use.Frames (S.given source.old) (S.given source.new) }
     ensures grows { S.faults source.old ≤ S.faults source.new }
     ensures cause { RefusedBy (S.faults source.old) (S.faults source.new) result }
     ensures answers { IfErr result AnswersImages }
@@ -104,10 +105,10 @@ fn write_images<K: Sink>(out: &mut K, images: &Images) -> Outcome
 #[tactic(auto, using(crate::proofs::ImagesWritten::images_output, crate::proofs::ImagesWritten::images_cause, crate::proofs::ImagesWritten::images_words, crate::proofs::Answered::images_answers, crate::proofs::Answered::images_stops))]
 pub fn run_frames<S: Source, K: Sink>(alloc: Global, source: &mut S, out: &mut K) -> Outcome
     ensures words { TellsMisfit (Ok Use.Frames) result }
-    ensures input { IfSome (S.left source.old) (λ bytes. ExplainsImages bytes result) }
-    ensures reads { Reads Use.Frames (S.left source.old) (S.left source.new) }
-    ensures end { ReadToEnd Use.Frames (S.left source.new) result }
-    ensures output { DeliversImages (S.left source.old) (K.held out.old) (K.held out.new) result }
+    ensures input { ExplainsImages (since (S.given source.old) (S.given source.new)) result }
+    ensures reads { Reads Use.Frames (S.given source.old) (S.given source.new) }
+    ensures end { ReadToEnd Use.Frames (S.has_ended source.new) result }
+    ensures output { DeliversImages (since (S.given source.old) (S.given source.new)) (K.held out.old) (K.held out.new) result }
     ensures cause { Causes (S.faults source.old) (S.faults source.new) (K.faults out.old) (K.faults out.new) result }
     ensures answers { MayAnswer Use.Frames result }
     ensures stops { StopsAtFault (S.faults source.old) (S.faults source.new) (S.has_failed source.new) result }

@@ -1,7 +1,7 @@
 //! The source, read to its end.
 
 ghost use Rattle.std.specs.Prelude.{◌≡◌, ◌+◌, ◌-◌, ◌<◌, ◌≤◌, ◌^◌, length, vec_len, IfOk, MatchResult};
-ghost use Rattle.player_uses.specs.Reading.{TakenAtMost};
+ghost use Rattle.player_uses.specs.Reading.{GivenAtMost};
 ghost use Rattle.player_uses.specs.inner.Inputs.{ReadWhole, StoppedAt, ReadCause, ReadMore, ReadStops, NotTooLong};
 
 use byte_io::Source;
@@ -32,14 +32,14 @@ fn blank(alloc: Global, length: usize) -> Result<Vec<u8>, AllocError>
 }
 
 // Reads one piece, at most as long as the buffer, and adds it to the bytes; answers its length.
-#[tactic(auto, using(crate::proofs::Told::took_nothing, crate::proofs::Told::took_front))]
+#[tactic(auto, using(crate::proofs::Told::gave_nothing, crate::proofs::Told::gave_front))]
 fn read_piece<S: Source>(
     source: &mut S,
     buffer: &mut [u8],
     bytes: &mut Vec<u8>,
 ) -> Result<usize, ReadStop>
-    ensures bytes { MatchResult result (ReadMore (S.left source.old) (S.left source.new) (length buffer.old) bytes.old.items bytes.new.items) (λ stop. NotTooLong stop) }
-    ensures reads { TakenAtMost (length buffer.old) (S.left source.old) (S.left source.new) }
+    ensures bytes { MatchResult result (ReadMore (S.given source.old) (S.given source.new) (S.has_ended source.new) (length buffer.old) bytes.old.items bytes.new.items) (λ stop. NotTooLong stop) }
+    ensures reads { GivenAtMost (length buffer.old) (S.given source.old) (S.given source.new) }
     ensures grows { S.faults source.old ≤ S.faults source.new }
     ensures cause { ReadCause (S.faults source.old) (S.faults source.new) result }
     ensures stops { ReadStops (S.faults source.old) (S.faults source.new) (S.has_failed source.new) result }
@@ -54,14 +54,14 @@ fn read_piece<S: Source>(
     }
 }
 
-/// All bytes that a source has, read to its end.
+/// All bytes that a source gives to its end.
 ///
 /// At most one byte more than `limit` is read, and after a failed read the source is not called again.
-#[tactic(auto, using(crate::proofs::Told::took_nothing, crate::proofs::Told::took_more))]
+#[tactic(auto, using(crate::proofs::Told::gave_nothing, crate::proofs::Told::gave_more, crate::proofs::Told::whole_given))]
 pub fn read_all<S: Source>(alloc: Global, source: &mut S, limit: usize) -> Result<Vec<u8>, ReadStop>
     requires { limit < 2 ^ 32 }
-    ensures bytes { MatchResult result (λ v. ReadWhole limit (S.left source.old) (S.left source.new) v.items) (StoppedAt limit (S.left source.old) (S.left source.new)) }
-    ensures reads { TakenAtMost (limit + 1) (S.left source.old) (S.left source.new) }
+    ensures bytes { MatchResult result (λ v. ReadWhole limit (S.given source.old) (S.given source.new) (S.has_ended source.new) v.items) (StoppedAt limit (S.given source.old) (S.given source.new)) }
+    ensures reads { GivenAtMost (limit + 1) (S.given source.old) (S.given source.new) }
     ensures grows { S.faults source.old ≤ S.faults source.new }
     ensures cause { ReadCause (S.faults source.old) (S.faults source.new) result }
     ensures stops { ReadStops (S.faults source.old) (S.faults source.new) (S.has_failed source.new) result }

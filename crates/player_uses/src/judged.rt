@@ -1,6 +1,7 @@
 //! The recording in the source, judged.
 
-ghost use Rattle.std.specs.Prelude.{◌≡◌, ℕ, ◌≤◌, Bool, length, Ok, IfSome};
+ghost use Rattle.std.specs.Prelude.{◌≡◌, ℕ, ◌≤◌, Bool, length, Ok};
+ghost use Rattle.byte_io.specs.Logs.{since};
 ghost use Rattle.player_uses.specs.Answers.{AnswersJudged, MayAnswer, TellsMisfit};
 ghost use Rattle.player_uses.specs.Faults.{Causes, StopsAtFault, IsSilent};
 ghost use Rattle.player_uses.specs.Reading.{ReadToEnd, Reads};
@@ -33,9 +34,9 @@ fn outcome_of(alloc: Global, bytes: &[u8]) -> Outcome
 #[tactic(auto, using(crate::proofs::JudgedInputs::judged_input, crate::proofs::JudgedInputs::judged_words, crate::proofs::JudgedInputs::judged_silent, crate::proofs::JudgedInputs::judged_causes, crate::proofs::JudgedInputs::judged_end))]
 pub fn run_check<S: Source>(alloc: Global, source: &mut S) -> Outcome
     ensures words { TellsMisfit (Ok Use.Check) result }
-    ensures input { IfSome (S.left source.old) (λ bytes. ExplainsJudgement bytes result) }
-    ensures reads { Reads Use.Check (S.left source.old) (S.left source.new) }
-    ensures end { ReadToEnd Use.Check (S.left source.new) result }
+    ensures input { ExplainsJudgement (since (S.given source.old) (S.given source.new)) result }
+    ensures reads { Reads Use.Check (S.given source.old) (S.given source.new) }
+    ensures end { ReadToEnd Use.Check (S.has_ended source.new) result }
     ensures grows { S.faults source.old ≤ S.faults source.new }
     ensures silent { IsSilent result }
     ensures cause { (p q : ℕ) → Causes (S.faults source.old) (S.faults source.new) p q result }

@@ -33,4 +33,4 @@ pub use script_input::{SCRIPT_LIMIT, read_script_from, script_in};
 pub use shot_input::read_shot_from;
 pub use summary::{Summary, put_summary, summary_of};
 pub use verdicts::put_verdict;
-pub use words::{Use, use_of};
+pub use words::{Use, players, use_of};

@@ -1,9 +1,10 @@
 //! The script in the source.
 
 ghost use Rattle.std.specs.Prelude.{◌≡◌, ℕ, ◌+◌, ◌≤◌, Bool, length, IfErr};
+ghost use Rattle.byte_io.specs.Logs.{since};
 ghost use Rattle.player_uses.specs.Refusals.{script_limit};
 ghost use Rattle.player_uses.specs.Answers.{AnswersScript};
-ghost use Rattle.player_uses.specs.Reading.{TakenAtMost};
+ghost use Rattle.player_uses.specs.Reading.{GivenAtMost};
 ghost use Rattle.player_uses.specs.Scripts.{ScriptIn, ScriptFrom};
 ghost use Rattle.player_uses.specs.Faults.{RefusedBy, RefusedAtFault};
 
@@ -46,9 +47,10 @@ pub fn script_in(alloc: Global, bytes: &[u8]) -> Result<Script, Outcome>
 
 /// Reads the source to its end, and the script in it; or tells why there is none, as [`script_in`] does, by `TooLong` if
 /// the source has more than [`SCRIPT_LIMIT`] bytes, and by `ReadFault` if it failed.
+#[tactic(auto, using(crate::proofs::AskedShots::script_from))]
 pub fn read_script_from<S: Source>(alloc: Global, source: &mut S) -> Result<Script, Outcome>
-    ensures script { ScriptFrom (S.left source.old) (S.left source.new) result }
-    ensures reads { TakenAtMost (script_limit + 1) (S.left source.old) (S.left source.new) }
+    ensures script { ScriptFrom (since (S.given source.old) (S.given source.new)) (S.has_ended source.new) result }
+    ensures reads { GivenAtMost (script_limit + 1) (S.given source.old) (S.given source.new) }
     ensures grows { S.faults source.old ≤ S.faults source.new }
     ensures cause { RefusedBy (S.faults source.old) (S.faults source.new) result }
     ensures answers { IfErr result AnswersScript }

@@ -3,9 +3,10 @@
 ghost use Rattle.std.specs.Prelude.{◌≡◌, ℕ, ◌+◌, ◌≤◌, true, Bool, length, IfErr, IfOk};
 ghost use Rattle.model_history.specs.Ranges.{are_short, is_in_ranges};
 ghost use Rattle.model_history.specs.Scripts.{script_of};
+ghost use Rattle.byte_io.specs.Logs.{since};
 ghost use Rattle.player_uses.specs.Refusals.{script_limit};
 ghost use Rattle.player_uses.specs.Answers.{AnswersScript};
-ghost use Rattle.player_uses.specs.Reading.{TakenAtMost};
+ghost use Rattle.player_uses.specs.Reading.{GivenAtMost};
 ghost use Rattle.player_uses.specs.Shots.{picture_inputs, shot_inputs, with_shot, ShotFrom};
 ghost use Rattle.player_uses.specs.Faults.{RefusedBy, RefusedAtFault};
 ghost use Rattle.player_uses.specs.inner.Shots.{PartsIn, JudgedShot, ShotIn};
@@ -119,8 +120,8 @@ fn shot_in(alloc: Global, bytes: &[u8]) -> Result<Script, Outcome>
 /// is none, as [`read_script_from`](crate::read_script_from) does.
 #[tactic(auto, using(crate::proofs::AskedShots::shot_from))]
 pub fn read_shot_from<S: Source>(alloc: Global, source: &mut S) -> Result<Script, Outcome>
-    ensures script { ShotFrom (S.left source.old) (S.left source.new) result }
-    ensures reads { TakenAtMost (script_limit + 1) (S.left source.old) (S.left source.new) }
+    ensures script { ShotFrom (since (S.given source.old) (S.given source.new)) (S.has_ended source.new) result }
+    ensures reads { GivenAtMost (script_limit + 1) (S.given source.old) (S.given source.new) }
     ensures grows { S.faults source.old ≤ S.faults source.new }
     ensures cause { RefusedBy (S.faults source.old) (S.faults source.new) result }
     ensures answers { IfErr result AnswersScript }

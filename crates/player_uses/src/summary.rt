@@ -31,7 +31,7 @@ pub struct Summary {
 /// images or of missing tiles is 2^64 or more: never so in a run that keeps all, whose events and missing tiles stand
 /// in memory.
 pub fn summary_of(history: &KeptHistory, sink: &SumSink) -> Option<Summary>
-    ensures some { IfSome result (IsSummary history.now.entries sink.now.held) }
+    ensures some { IfSome result (IsSummary history.now.entries sink.now.taken.items) }
     ensures none { result ≡ None → HasNoSummary history.now.first history.now.entries }
 {
     if history.first() > 0 {

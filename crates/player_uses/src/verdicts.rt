@@ -52,8 +52,8 @@ fn head(number: u64, outcome: Outcome) -> [Fragment; 5]
 fn put_text<C: Client>(session: &mut Session<C>, fragment: &Fragment) -> Result<(), Failed>
     ensures said { Said (C.past session.old.client) (C.past session.new.client) (fragment_text fragment.now) result }
     ensures torn { session.new.torn ≡ session.old.torn }
-    ensures grows { C.faults session.old.client ≤ C.faults session.new.client }
-    ensures cause { OnErr result (HasFailed (C.faults session.old.client) (C.faults session.new.client) session.new.torn) }
+    ensures grows { C.put_faults session.old.client ≤ C.put_faults session.new.client }
+    ensures cause { OnErr result (HasFailed (C.put_faults session.old.client) (C.put_faults session.new.client) session.new.torn) }
 {
     match fragment {
         Fragment::Text(text) => session.put_text(text),
@@ -76,8 +76,8 @@ fn put_texts<C: Client>(
 ) -> Result<(), Failed>
     ensures said { Said (C.past session.old.client) (C.past session.new.client) (flat_map fragment_text (first.now ∷ others.now)) result }
     ensures torn { session.new.torn ≡ session.old.torn }
-    ensures grows { C.faults session.old.client ≤ C.faults session.new.client }
-    ensures cause { OnErr result (HasFailed (C.faults session.old.client) (C.faults session.new.client) session.new.torn) }
+    ensures grows { C.put_faults session.old.client ≤ C.put_faults session.new.client }
+    ensures cause { OnErr result (HasFailed (C.put_faults session.old.client) (C.put_faults session.new.client) session.new.torn) }
 {
     if let Err(failed) = put_text(session, first) {
         return Err(failed);
@@ -100,8 +100,8 @@ fn put_head<C: Client>(
 ) -> Result<(), Failed>
     ensures said { Said (C.past session.old.client) (C.past session.new.client) (joined_texts (verdict_head number outcome)) result }
     ensures torn { session.new.torn ≡ session.old.torn }
-    ensures grows { C.faults session.old.client ≤ C.faults session.new.client }
-    ensures cause { OnErr result (HasFailed (C.faults session.old.client) (C.faults session.new.client) session.new.torn) }
+    ensures grows { C.put_faults session.old.client ≤ C.put_faults session.new.client }
+    ensures cause { OnErr result (HasFailed (C.put_faults session.old.client) (C.put_faults session.new.client) session.new.torn) }
 {
     let [first, second, third, fourth, fifth] = head(number, outcome);
     put_texts(session, &first, &[second, third, fourth, fifth])
@@ -117,8 +117,8 @@ pub fn put_verdict<C: Client>(
 ) -> Result<(), Failed>
     ensures said { Said (C.past session.old.client) (C.past session.new.client) (verdict number outcome) result }
     ensures torn { session.new.torn ≡ session.old.torn }
-    ensures grows { C.faults session.old.client ≤ C.faults session.new.client }
-    ensures cause { OnErr result (HasFailed (C.faults session.old.client) (C.faults session.new.client) session.new.torn) }
+    ensures grows { C.put_faults session.old.client ≤ C.put_faults session.new.client }
+    ensures cause { OnErr result (HasFailed (C.put_faults session.old.client) (C.put_faults session.new.client) session.new.torn) }
 {
     match put_head(session, number, outcome) {
         Ok(()) => put_texts(session, &NOTHING, &line(outcome)),

@@ -1,6 +1,6 @@
 //! The words of the command line.
 
-ghost use Rattle.std.specs.Prelude.{◌≡◌, ◌≤◌, ◌^◌, ◌+◌, ◌-◌, ◌*◌, IfOk, MatchOption, decimal, map, string_bytes};
+ghost use Rattle.std.specs.Prelude.{◌≡◌, ◌≤◌, ◌^◌, ◌+◌, ◌-◌, ◌*◌, Ok, IfOk, IfSome, MatchOption, is_some, decimal, map, string_bytes};
 ghost use Rattle.std.specs.Str.{bytes_eq};
 ghost use Rattle.player_uses.specs.Words as words;
 ghost use Rattle.player_uses.specs.Words.{IsFew};
@@ -38,7 +38,7 @@ pub enum Use {
     /// `shot N`: plays a script in lockstep with N raster workers and writes the picture of its last draw as a PNG
     /// file.
     Shot {
-        /// How many raster workers there are, 1 to 16. The file is the same for every number.
+        /// How many raster workers there are, 1 to 16. The picture is the same for every number.
         workers: u32,
     },
     /// `frames`: writes the images of a recording.
@@ -47,9 +47,32 @@ pub enum Use {
     Check,
     /// `serve N`: answers each line of a client, which is a script, with its recording.
     Serve {
-        /// How many raster workers there are, 1 to 16. The answers are the same for every number.
+        /// How many raster workers there are, 1 to 16. The recordings in the answers are the same for every number,
+        /// and not the pieces in which they come.
         workers: u32,
     },
+}
+
+impl Use {
+    // The number of raster workers of `play N`; None for other uses.
+    fn players(self) -> Option<u32>
+        requires { IsFew self }
+        ensures play { is_some result ≡ words.is_play self }
+        ensures workers { IfSome result (λ workers. self ≡ Use.Play workers) }
+        ensures few { IfSome result (λ workers. (1 ≤ workers) × (workers ≤ 16)) }
+    {
+        match self {
+            Use::Play { workers } => Some(workers),
+            Use::Step { .. }
+            | Use::Gen { .. }
+            | Use::Demo { .. }
+            | Use::Film { .. }
+            | Use::Shot { .. }
+            | Use::Frames
+            | Use::Check
+            | Use::Serve { .. } => None,
+        }
+    }
 }
 
 // Whether two texts are the same.
@@ -253,5 +276,17 @@ pub fn use_of(given: &[String]) -> Result<Use, u32>
         [first, rest @ ..] if is_same(first.as_str(), "step") => after_step(rest),
         [first, rest @ ..] => after_other(first.as_str(), rest),
         _ => Err(0),
+    }
+}
+
+/// The number of raster workers of `play N`; None if the words are others.
+pub fn players(given: &[String]) -> Option<u32>
+    ensures play { is_some result ≡ words.asks_play (words.use_of (map string_bytes given.now)) }
+    ensures workers { IfSome result (λ workers. words.use_of (map string_bytes given.now) ≡ Ok (Use.Play workers)) }
+    ensures few { IfSome result (λ workers. (1 ≤ workers) × (workers ≤ 16)) }
+{
+    match use_of(given) {
+        Ok(wanted) => wanted.players(),
+        Err(_) => None,
     }
 }

@@ -1,21 +1,39 @@
 -- One act more: what came, what went, and whether the client has no more.
-use Rattle.std.specs.Prelude.{◌≡◌, ℕ, ◌-◌, ◌≤◌, ◌<◌, List, [], ◌∷◌, ◌++◌, length, take, Some, Err}
+use Rattle.std.specs.Prelude.{◌≡◌, ◌==◌, ℕ, ◌-◌, ◌≤◌, ◌<◌, Bool, true, false, List, [], ◌∷◌, ◌++◌, length, take, drop, ⊤, Some, Ok, Err}
 use Rattle.std.proofs.Common.{refl, sym, ap, subst, ◌∙◌, append-nil, append_assoc, arith, length-append, length-take}
+use Rattle.std.proofs.lemmas.Bool.Decides.{nat_tests}
+use Rattle.std.proofs.lemmas.List.{take-append-drop, drop_all}
 use Rattle.player_lines.specs.Sessions.{Act, Got, Data, Text, TornData, TornText, came, frame}
 use Rattle.byte_io.specs.Pieces.{PutAppends}
 use Rattle.byte_io.specs.declared.writing.PutFault.{PutFault}
 use Rattle.byte_io.specs.declared.writing.PutFault.TheVariants.{Failed, Memory}
-use Rattle.test_cases.specs.declared.talk.Passed.{Passed}
-use Rattle.test_cases.specs.Talks.{IsTold, act_of, acts_after, acts}
-
-after_more : (h : List Act) (ps : List Passed) (p : Passed) → acts_after h (ps ++ p ∷ []) ≡ act_of p ∷ acts_after h ps
-after_more h [] p = refl
-after_more h (q ∷ ps) p = after_more (act_of q ∷ h) ps p
-
-pub one_more : (new old : List Passed) (p : Passed) (a : Act) → new ≡ old ++ p ∷ [] → act_of p ≡ a → acts new ≡ a ∷ acts old
-one_more new old p a is act = ap acts is ∙ after_more [] old p ∙ ap (λ (x : Act). x ∷ acts old) act
+use Rattle.byte_io.specs.Logs.{ends_by}
+use Rattle.test_cases.specs.Talks.{IsTold}
 
 -- ---- bytes came
+
+cancel : (front xs ys : List ℕ) → front ++ xs ≡ front ++ ys → xs ≡ ys
+cancel [] xs ys is = is
+cancel (x ∷ front) xs ys is = cancel front xs ys (cc is)
+
+-- what was left is what came and what is left
+pub left_more : (xs came : List ℕ) (g h : ℕ) → take h xs ≡ take g xs ++ came → drop g xs ≡ came ++ drop h xs
+left_more xs came g h is =
+    let whole : take g xs ++ (came ++ drop h xs) ≡ xs =
+    sym (append_assoc (take g xs) came (drop h xs)) ∙ ap (λ (l : List ℕ). l ++ drop h xs) (sym is) ∙ take-append-drop h xs in
+    cancel (take g xs) (drop g xs) (came ++ drop h xs) (take-append-drop g xs ∙ sym whole)
+
+-- nothing is left if the end was told
+pub none_left : (ended : Bool) (xs : List ℕ) (h n room more : ℕ) → 0 < room → ended ≡ ends_by {E = ⊤} (Ok n) room → (ended ≡ true → h ≡ length xs) → n ≡ 0 → 0 < more → drop h xs ≡ []
+none_left ended xs h n room more some told whole none other =
+    let at_end : ended ≡ true = told ∙ ends n room none some in
+    ap (λ (k : ℕ). drop k xs) (whole at_end) ∙ drop_all (length xs) xs (omega arith)
+  where
+    ends : (n room : ℕ) → n ≡ 0 → 0 < room → ends_by {E = ⊤} (Ok n) room ≡ true
+    ends n room none some =
+        let nothing : (n == 0) ≡ true = grind (arith, nat_tests, none) in
+        let room_left : (room == 0) ≡ false = grind (arith, nat_tests, some) in
+        rw nothing (rw room_left refl)
 
 short : (xs : List ℕ) → length xs ≡ 0 → xs ≡ []
 short [] is = refl

@@ -32,4 +32,4 @@ pub use output::{Output, Short};
 pub use run::{Difference, RunOutput};
 pub use sink::{SinkWait, WaitingSink};
 pub use table::CaseTable;
-pub use talk::{Passed, Talk};
+pub use talk::Talk;

@@ -3,38 +3,26 @@
 ghost use Rattle.std.specs.Prelude.{◌≡◌, ◌≤◌, ◌-◌, [], false, drop, vec_len, Some, OnOk, IfErr};
 ghost use Rattle.player_lines.specs.Sessions.{AreAnswers, AtOnce, lines_of};
 ghost use Rattle.player_lines.specs.inner.Reading.{ClientCause, StoppedBy};
-ghost use Rattle.test_cases.specs.Talks.{IsTold, acts};
+ghost use Rattle.player_lines.specs.Passings.{acts};
+ghost use Rattle.test_cases.specs.Talks.{IsTold};
 
 use byte_io::{MemSink, MemSource, Sink, Source};
 use ghost_list::GhostList;
-use player_lines::{Answerer, Client, Failed, Session, Stop, put_frame, serve};
+use player_lines::{Answerer, Client, Failed, Passed, Session, Stop, put_frame, serve};
 use std::alloc::Global;
 use std::marker::Sync;
 use std::thread::Threads;
-
-/// What passed between a session and its client, if the bytes are told to clauses alone.
-#[derive(Drop)]
-pub enum Passed {
-    /// These bytes came.
-    Got(GhostList<u8>),
-    /// This piece of data went, in its frame.
-    Data(GhostList<u8>),
-    /// This text of the last line of an answer went.
-    Text(GhostList<u8>),
-    /// Only the given number of bytes of a frame went.
-    TornData(GhostList<u8>, usize),
-    /// Only the given number of bytes of a text went.
-    TornText(GhostList<u8>, usize),
-}
 
 /// A client that gives the bytes of an input and keeps the answers, both in memory.
 #[derive(Drop)]
 pub struct Talk {
     source: MemSource,
     out: MemSink,
-    /// How many calls failed.
-    faults: u64,
-    /// The oldest act first.
+    /// Whether the last read failed.
+    failed: bool,
+    /// How many puts failed.
+    put_faults: u64,
+    /// What passed, the oldest act first, for clauses alone.
     passed: GhostList<Passed>,
     ghost tells: { IsTold (acts passed.items) (drop source.given source.bytes.items) source.bytes.items out.bytes.items },
 }
@@ -43,11 +31,7 @@ pub struct Talk {
 fn told(bytes: &[u8]) -> GhostList<u8>
     ensures { result.items ≡ bytes.now }
 {
-    let mut list = GhostList::new();
-    for byte in bytes {
-        list = list.and(byte);
-    }
-    list
+    GhostList::new().with_all(bytes)
 }
 
 // How many bytes a sink took since it held the given number.
@@ -69,7 +53,8 @@ impl Talk {
         Talk {
             source: MemSource::new(input, step, Vec::new(alloc)),
             out: MemSink::new(alloc, room, Vec::new(alloc)),
-            faults: 0,
+            failed: false,
+            put_faults: 0,
             passed: GhostList::new(),
         }
     }
@@ -96,8 +81,8 @@ impl Talk {
         ensures at_once { AtOnce (A.answers answerer.now) (acts session.new.client.passed.items) }
         ensures ends { OnOk result (AreAnswers (A.answers answerer.now) (lines_of session.new.client.source.bytes.items) session.new.client.out.bytes.items) }
         ensures stops { IfErr result (λ why. StoppedBy (A.answers answerer.now) why (acts session.new.client.passed.items)) }
-        ensures grows { session.old.client.faults ≤ session.new.client.faults }
-        ensures cause { ClientCause session.old.client.faults session.new.client.faults session.new.torn result }
+        ensures grows { session.old.client.put_faults ≤ session.new.client.put_faults }
+        ensures cause { ClientCause session.old.client.put_faults session.new.client.put_faults session.new.torn session.new.client.failed result }
     {
         match serve(rt, alloc, answerer, session) {
             Ok(()) => Ok(()),
@@ -109,17 +94,20 @@ impl Talk {
 impl Client for Talk {
     ghost past = { λ t. Some (acts t.passed.items) };
 
-    ghost faults = { λ t. t.faults };
+    ghost has_failed = { λ t. t.failed };
+
+    ghost put_faults = { λ t. t.put_faults };
 
     fn read(&mut self, buf: &mut [u8]) -> Result<usize, Failed> {
         match self.source.read(buf) {
             Ok(count) => {
                 let passed = Passed::Got(told(&buf[..count]));
                 self.passed = self.passed.and(&passed);
+                self.failed = false;
                 Ok(count)
             }
             Err(_) => {
-                self.faults = self.faults.saturating_add(1);
+                self.failed = true;
                 Err(Failed)
             }
         }
@@ -136,7 +124,7 @@ impl Client for Talk {
             Err(failed) => {
                 let passed = Passed::TornData(told(piece), taken_since(&self.out, before));
                 self.passed = self.passed.and(&passed);
-                self.faults = self.faults.saturating_add(1);
+                self.put_faults = self.put_faults.saturating_add(1);
                 Err(failed)
             }
         }
@@ -153,7 +141,7 @@ impl Client for Talk {
             Err(_) => {
                 let passed = Passed::TornText(told(text), taken_since(&self.out, before));
                 self.passed = self.passed.and(&passed);
-                self.faults = self.faults.saturating_add(1);
+                self.put_faults = self.put_faults.saturating_add(1);
                 Err(Failed)
             }
         }

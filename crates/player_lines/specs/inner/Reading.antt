@@ -69,8 +69,9 @@ has_begun_by [] None = false
 has_begun_by (b ∷ kept) None = true
 has_begun_by kept (Some why) = true
 
--- a fault of the client is answered only if a call of it failed
-abbrev pub ClientCause : {X : Type 0} → ℕ → ℕ → Bool → Result X Stop → Type 0
-ClientCause old new torn (Ok _) = ⊤
-ClientCause old new torn (Err stop.Memory) = ⊤
-ClientCause old new torn (Err _) = HasFailed old new torn
+-- the client could not be read only if its last read failed, and took no more only if a put failed
+abbrev pub ClientCause : {X : Type 0} → ℕ → ℕ → Bool → Bool → Result X Stop → Type 0
+ClientCause old new torn failed (Ok _) = ⊤
+ClientCause old new torn failed (Err stop.Memory) = ⊤
+ClientCause old new torn failed (Err stop.Read) = failed ≡ true
+ClientCause old new torn failed (Err stop.Write) = HasFailed old new torn

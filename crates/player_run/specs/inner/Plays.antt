@@ -1,6 +1,5 @@
 -- What a use writes of the script that it plays.
-use Rattle.std.specs.Prelude.{◌≡◌, ◌≤◌, ℕ, ⊤, List, length, Option, IfSome, Some, None}
-use Rattle.std.specs.Io.KnownBytes.{IsAtEnd}
+use Rattle.std.specs.Prelude.{◌≡◌, ◌≤◌, ℕ, ⊤, Bool, true, List, length, Option, Some, None}
 use Rattle.model_history.specs.Accepted.{IsAccepted}
 use Rattle.model_history.specs.Scripts.{ScriptModel}
 use Rattle.script_json.specs.Causes.{IsScriptText}
@@ -51,10 +50,10 @@ abbrev pub Plays : Use → ScriptModel → Option (List ℕ) → Option (List �
 Plays wanted s old new NoPicture = LacksPicture wanted s × (new ≡ old)
 Plays wanted s old new result = WritesOrBegins (IsWritten wanted s) (IsStarted wanted s) old new result
 
--- the script that a use plays, as the bytes of a source said it, of which nothing is left
-pub record IsReadFor (wanted : Use) (old new : Option (List ℕ)) (s : ScriptModel) : Type 0 where
+-- the script that a use plays, as the bytes that a source gave say it, and the source said that no more come
+pub record IsReadFor (wanted : Use) (bytes : List ℕ) (ended : Bool) (s : ScriptModel) : Type 0 where
   pub said : ScriptModel
-  pub text : IfSome old (λ bytes. (length bytes ≤ script_limit) × IsScriptText bytes said)
+  pub text : (length bytes ≤ script_limit) × IsScriptText bytes said
   pub accepted : IsAccepted said
   pub asked : s ≡ script_played wanted said
-  pub whole : IsAtEnd new
+  pub whole : ended ≡ true

@@ -1,18 +1,14 @@
 -- What reading a source to its end gives.
-use Rattle.std.specs.Prelude.{◌≡◌, ℕ, Bool, true, ◌+◌, ◌<◌, ◌≤◌, List, ◌++◌, length, ⊤, Option, Result, Ok, Err}
-use Rattle.std.specs.Io.KnownBytes.{Consumes, IsAtEnd}
+use Rattle.std.specs.Prelude.{◌≡◌, ℕ, Bool, true, ◌+◌, ◌<◌, ◌≤◌, List, ◌++◌, length, ⊤, Result, Ok, Err}
 use Rattle.byte_io.specs.Counts.{Rose, raised}
+use Rattle.byte_io.specs.Logs.{Gave, since}
 use Rattle.player_uses.specs.declared.input.ReadStop.{ReadStop}
 use Rattle.player_uses.specs.declared.input.ReadStop.TheVariants.{TooLong, Fault, Memory}
 
--- the source gave these bytes, and nothing is left
-abbrev pub GaveAll : Option (List ℕ) → Option (List ℕ) → List ℕ → Type 0
-GaveAll old new bytes = Consumes old new bytes × IsAtEnd new
-
--- a read of at most `room` bytes gave a piece, which was added; none only at the end
-abbrev pub ReadMore : Option (List ℕ) → Option (List ℕ) → ℕ → List ℕ → List ℕ → ℕ → Type 0
-ReadMore old new room before after n =
-    (piece : List ℕ) × Consumes old new piece × (after ≡ before ++ piece) × (length piece ≡ n) × (n ≤ room) × (n ≡ 0 → 0 < room → IsAtEnd new)
+-- a read of at most `room` bytes gave a piece, which was added; none only if the source said that no more come
+abbrev pub ReadMore : List ℕ → List ℕ → Bool → ℕ → List ℕ → List ℕ → ℕ → Type 0
+ReadMore old new ended room before after n =
+    (piece : List ℕ) × Gave old new piece × (after ≡ before ++ piece) × (length piece ≡ n) × (n ≤ room) × (n ≡ 0 → 0 < room → ended ≡ true)
 
 -- the stop is no matter of the limit
 abbrev pub NotTooLong : ReadStop → Type 0
@@ -20,17 +16,13 @@ NotTooLong TooLong = ⊥
 NotTooLong Fault = ⊤
 NotTooLong Memory = ⊤
 
--- the source gave just one byte more than the limit
-abbrev pub GaveMore : ℕ → Option (List ℕ) → Option (List ℕ) → Type 0
-GaveMore limit old new = (bytes : List ℕ) × Consumes old new bytes × (length bytes ≡ limit + 1)
+-- these are the bytes that the source gave, at most as many as the limit, and it said that no more come
+abbrev pub ReadWhole : ℕ → List ℕ → List ℕ → Bool → List ℕ → Type 0
+ReadWhole limit old new ended bytes = (since old new ≡ bytes) × (ended ≡ true) × (length bytes ≤ limit)
 
--- all bytes of the source, at most as many as the limit
-abbrev pub ReadWhole : ℕ → Option (List ℕ) → Option (List ℕ) → List ℕ → Type 0
-ReadWhole limit old new bytes = GaveAll old new bytes × (length bytes ≤ limit)
-
--- reading stopped early: the source gave more than the limit, or it failed, or there was no memory
-abbrev pub StoppedAt : ℕ → Option (List ℕ) → Option (List ℕ) → ReadStop → Type 0
-StoppedAt limit old new TooLong = GaveMore limit old new
+-- reading stopped early: the source gave just one byte more than the limit, or it failed, or there was no memory
+abbrev pub StoppedAt : ℕ → List ℕ → List ℕ → ReadStop → Type 0
+StoppedAt limit old new TooLong = length (since old new) ≡ limit + 1
 StoppedAt limit old new Fault = ⊤
 StoppedAt limit old new Memory = ⊤
 

@@ -1,6 +1,6 @@
 -- A recording on its way from the source, and its images on their way to the sink.
-use Rattle.std.specs.Prelude.{◌≡◌, ℕ, ◌≤◌, List, length, flat_map, Option, IfSome, Result, Ok, Err}
-use Rattle.std.specs.Io.KnownBytes.{Appends, IsAtEnd}
+use Rattle.std.specs.Prelude.{◌≡◌, ℕ, ◌≤◌, Bool, true, List, length, flat_map, Option, Result, Ok, Err}
+use Rattle.std.specs.Io.KnownBytes.{Appends}
 use Rattle.byte_io.specs.Pieces.{GainsPrefix}
 use Rattle.model_history.specs.Scripts.{ScriptModel}
 use Rattle.recording_text.specs.Pieces.{Piece, images_text}
@@ -23,10 +23,10 @@ pub record HasImages (i : Images) : Type 0 where
   pub within : AreWithin (length i.bytes.items) i.spans.items
   pub few : length i.bytes.items ≤ recording_limit
 
--- the recording in the bytes of a source, or why there is none
-abbrev pub RecordingFrom : Option (List ℕ) → Option (List ℕ) → Result Images Outcome → Type 0
-RecordingFrom old new (Ok i) = HasImages i × IfSome old (λ bytes. bytes ≡ i.bytes.items) × IsAtEnd new
-RecordingFrom old new (Err o) = IfSome old (λ bytes. ExplainsImages bytes o) × IsJudgedWhole new o × IsStopped o
+-- the recording in the bytes that a source gave, or why there is none
+abbrev pub RecordingFrom : List ℕ → Bool → Result Images Outcome → Type 0
+RecordingFrom bytes ended (Ok i) = HasImages i × (bytes ≡ i.bytes.items) × (ended ≡ true)
+RecordingFrom bytes ended (Err o) = ExplainsImages bytes o × IsJudgedWhole ended o × IsStopped o
 
 -- these bytes were written; or a prefix of them
 abbrev pub WritesImages : Option (List ℕ) → Option (List ℕ) → List ℕ → Outcome → Type 0

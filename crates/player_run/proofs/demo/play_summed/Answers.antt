@@ -8,6 +8,6 @@ use Rattle.player_run.proofs.demo.play_summed.Goals as goal
 
 pub returns-in-Ok : goal.returns-in-Ok
 returns-in-Ok g c =
-    let empty : c.in_ok-sink.sink.held ≡ [] = search rules in
-    let counts = subst (λ (h : List Entry). IfSome c.summary_of.result (IsSummary h c.record_lockstep.new.out.held)) c.history.ensures c.summary_of.ensures.some in
-    summed c.args.script.value c.in-Ok.run' c.in_ok-sink.sink.held c.record_lockstep.new.out.held c.summary_of.result empty c.in-Ok.ensures.history c.in-Ok.ensures.bytes counts
+    let empty : c.new-sink.result.taken.items ≡ [] = search rules in
+    let counts = subst (λ (h : List Entry). IfSome c.summary_of.result (IsSummary h c.record_lockstep.new.out.taken.items)) c.history.ensures c.summary_of.ensures.some in
+    summed c.args.script.value c.in-Ok.run' c.new-sink.result.taken.items c.record_lockstep.new.out.taken.items c.summary_of.result empty c.in-Ok.ensures.history c.in-Ok.ensures.bytes counts

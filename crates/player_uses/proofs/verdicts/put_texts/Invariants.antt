@@ -9,7 +9,7 @@ abbrev pub invariant-loop-fragment : goal.invariant-loop-fragment
 invariant-loop-fragment g l =
     (done : List ℕ) × SaidAll (g.C.Client.past l.fn.session.client) (g.C.Client.past l.session.client) done
     × (done ++ flat_map fragment_text l.rest ≡ flat_map fragment_text (l.first ∷ l.others))
-    × (l.session.torn ≡ l.fn.session.torn) × (g.C.Client.faults l.fn.session.client ≤ g.C.Client.faults l.session.client)
+    × (l.session.torn ≡ l.fn.session.torn) × (g.C.Client.put_faults l.fn.session.client ≤ g.C.Client.put_faults l.session.client)
 
 abbrev pub decreases-loop-fragment : goal.decreases-loop-fragment
 decreases-loop-fragment g l = length l.rest

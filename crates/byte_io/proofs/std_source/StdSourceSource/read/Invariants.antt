@@ -8,3 +8,5 @@ invariant-loop g l =
     Keeps (g.R.Read.remaining l.fn.self.reader) (g.R.Read.remaining l.self.reader)
     × (l.self.faults ≡ l.fn.self.faults)
     × (l.self.failed ≡ false)
+    × (l.self.ended ≡ false)
+    × (l.self.given.items ≡ l.fn.self.given.items)

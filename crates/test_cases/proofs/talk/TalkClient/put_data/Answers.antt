@@ -1,7 +1,8 @@
 -- A piece of data went, or the first bytes of its frame.
 use Rattle.std.proofs.Common.{rules, ap, List, ℕ}
 use Rattle.player_lines.specs.Sessions.{Data, TornData}
-use Rattle.test_cases.proofs.Acts.{one_more, data_told, torn_data_told}
+use Rattle.player_lines.proofs.Acted.{one_more}
+use Rattle.test_cases.proofs.Acts.{data_told, torn_data_told}
 use Rattle.test_cases.proofs.talk.TalkClient.put_data.Goals as goal
 
 pub invariant_of-self : goal.invariant_of-self

@@ -2,7 +2,8 @@
 use Rattle.std.specs.Prelude.{⊤}
 use Rattle.std.proofs.Common.{rules, ap, List, ℕ}
 use Rattle.player_lines.specs.Sessions.{Text, TornText}
-use Rattle.test_cases.proofs.Acts.{one_more, text_told, torn_put, torn_text_told}
+use Rattle.player_lines.proofs.Acted.{one_more}
+use Rattle.test_cases.proofs.Acts.{text_told, torn_put, torn_text_told}
 use Rattle.test_cases.proofs.talk.TalkClient.put_text.Goals as goal
 
 pub invariant_of-self : goal.invariant_of-self
