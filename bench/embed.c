@@ -23,21 +23,18 @@ static void need(uint32_t status) {
   exit(1);
 }
 
-static cc *page_of(int height) {
-  cc *page;
-  need(cc_new(WIDTH, HEIGHT, 256, 0xffffffff, 64 << 20, &page));
+static void make_page(cc_compositor *page, int height) {
+  need(cc_new(page, WIDTH, HEIGHT, 256, 0xffffffff, 64 << 20));
   need(cc_add_scroller(page, 1, 0, 0, height - HEIGHT, NULL));
   need(cc_add_transform(page, 1, 0, 0, 0, 1, NULL));
   need(cc_add_layer(page, 1, 0, 1, 0, 0, WIDTH, height, 0, NULL));
-  return page;
 }
 
-static cc *rects(void) {
-  cc *page = page_of(9040);
+static void make_rects(cc_compositor *page) {
+  make_page(page, 9040);
   for (int i = 0; i < RECTS; i++)
     need(cc_insert_rect(page, 1, i, (i % 7) * 40, 36 * i, 700, 30, 0x6478ff | (uint32_t)(i % 200) << 24, NULL));
   need(cc_commit(page));
-  return page;
 }
 
 static void fill(uint8_t *pixels, int seed) {
@@ -51,14 +48,13 @@ static void fill(uint8_t *pixels, int seed) {
 
 static uint8_t bitmap[SIDE * SIDE * 4];
 
-static cc *bitmaps(void) {
-  cc *page = page_of(SIDE * (BITMAPS / 8 + 1));
+static void make_bitmaps(cc_compositor *page) {
+  make_page(page, SIDE * (BITMAPS / 8 + 1));
   for (int i = 0; i < BITMAPS; i++) {
     fill(bitmap, i);
-    need(cc_insert_bitmap(page, 1, i, SIDE * (i % 8), SIDE * (i / 8), SIDE, SIDE, bitmap, NULL));
+    need(cc_insert_bitmap(page, 1, i, SIDE * (i % 8), SIDE * (i / 8), SIDE, SIDE, bitmap, sizeof bitmap, NULL));
   }
   need(cc_commit(page));
-  return page;
 }
 
 /* The least time of some turns, and their mean. */
@@ -75,7 +71,7 @@ static cc *bitmaps(void) {
     printf("  %-34s %9.4f ms  (mean %9.4f)\n", name, least, sum / (count)); \
   } while (0)
 
-static void draws(cc *page) {
+static void draws(cc_compositor *page) {
   static uint8_t pixels[WIDTH * HEIGHT * 4];
   uint32_t layer;
   TIMES("first draw", 1, need(cc_draw(page, NULL, NULL)));
@@ -101,7 +97,8 @@ static void draws(cc *page) {
 
 int main(void) {
   printf("250 rects:\n");
-  cc *page = rects();
+  cc_compositor made = CC_EMPTY, *page = &made;
+  make_rects(page);
   draws(page);
   TIMES("one rect replaced, commit, draw", 100, {
     need(cc_replace_rect(page, 1, 3, 100, 100 + turn % 2, 700, 30, 0x20a040ff, NULL));
@@ -110,11 +107,11 @@ int main(void) {
   });
   cc_free(page);
   printf("180 bitmaps of 128 by 128:\n");
-  page = bitmaps();
+  make_bitmaps(page);
   draws(page);
   TIMES("one bitmap replaced, commit, draw", 50, {
     fill(bitmap, turn);
-    need(cc_replace_bitmap(page, 1, 3, SIDE * 3, 0, SIDE, SIDE, bitmap, NULL));
+    need(cc_replace_bitmap(page, 1, 3, SIDE * 3, 0, SIDE, SIDE, bitmap, sizeof bitmap, NULL));
     need(cc_commit(page));
     need(cc_draw(page, NULL, NULL));
   });

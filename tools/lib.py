@@ -69,10 +69,13 @@ def exported():
 
 
 def merged(into, archives):
-    """One archive of the objects of several."""
-    script = "CREATE %s\n%sSAVE\nEND\n" % (into, "".join("ADDLIB %s\n" % a for a in archives))
-    run("ar", "-M", input=script, text=True)
-    run("ranlib", into)
+    """One archive of the objects of several, which has no names for others but the functions of the header."""
+    with tempfile.TemporaryDirectory() as folder:
+        whole = pathlib.Path(folder) / (into.stem + ".o")
+        run("ld", "-r", "--whole-archive", *archives, "-o", whole)
+        run("objcopy", *("--keep-global-symbol=" + name for name in exported()), whole)
+        into.unlink(missing_ok=True)
+        run("ar", "rcs", into, whole)
 
 
 def link(compiler, archive, shared):

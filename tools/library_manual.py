@@ -16,8 +16,10 @@ import textwrap
 
 ROOT = pathlib.Path(__file__).resolve().parent.parent
 HEADER, PAGE = ROOT / "include" / "cc.h", ROOT / "man" / "cc.3"
-FUNCTION = re.compile(r"((?:/\*(?:(?!\*/).)*\*/\n)?)static inline ([\w ]+?[ *]+)(cc_\w+)\(([^)]*)\)", re.S)
-SECTION = re.compile(r"^ \* (Threads|Ownership|Errors|Memory|Numbers) +(.*(?:\n \*  +.*)*)", re.M)
+FUNCTION = re.compile(r"((?:/\*(?:(?!\*/).)*\*/\n)?)^(?:static inline )?(uint32_t |void |const char \*)(cc_\w+)\(([^)]*)\)", re.S | re.M)
+SECTION = re.compile(r"^ \* (Handles|Threads|Ownership|Errors|Memory|Numbers|Processor) +(.*(?:\n \*  +.*)*)", re.M)
+# What the name of a function ends in that tests for null pointers in front of another.
+CHECKED = "_checked"
 TEXTS = ("cc_status_text", "cc_fault_text")
 EXAMPLE = ROOT / "examples" / "embed" / "first.c"
 
@@ -49,17 +51,15 @@ def declared(answer, name, parameters):
 def functions(header):
     """Each public function of the header: its declaration, name and comment."""
     for comment, answer, name, parameters in FUNCTION.findall(header):
-        if not name.endswith("_"):
+        if not name.endswith(CHECKED):
             yield declared(answer, name, parameters), name, prose(body(comment))
 
 
 def enumerated(header, first):
     """The names of an enumeration that begins with this one, each with its comment."""
     block = re.search(r"enum \{([^}]*\b%s\b[^}]*)\}" % first, header)[1]
-    for line in block.splitlines():
-        found = re.match(r" +(CC_\w+).*?/\* (.*?) \*/", line) or re.match(r" +(CC_DONE)()", line)
-        if found:
-            yield found[1], prose(found[2] or "all was done")
+    for name, told in re.findall(r"^ +(CC_\w+)(?: = \d+)?,?(?: +/\* (.*?) \*/)?$", block, re.M | re.S):
+        yield name, prose(told or "all was done")
 
 
 def listed(pairs):
@@ -103,8 +103,8 @@ They change the main page. \\fIfault\\fP may be null.
 .SH RETURN VALUE
 The calls that can fail answer one of these.
 {listed(enumerated(header, "CC_DONE"))}.PP
-A command that is refused tells one of these in \\fIwhy\\fP of \\fBcc_fault\\fP, with \\fIvalue\\fP and \\fIlimit\\fP
-where they are named: the first that applies.
+An edit that is \\fBCC_REFUSED\\fP or \\fBCC_BAD\\fP tells one of these in \\fIwhy\\fP of \\fBcc_fault\\fP, with
+\\fIfield\\fP, \\fIvalue\\fP and \\fIlimit\\fP where they are named: the first that applies.
 {listed(enumerated(header, "CC_UNKNOWN_ID"))}.PP
 Both as text:
 .br
@@ -132,7 +132,7 @@ def faults():
     text = page()
     if not PAGE.is_file() or PAGE.read_text() != text:
         yield f"{PAGE.relative_to(ROOT)} is stale: tools/library_manual.py --write"
-    wanted = set(re.findall(r"^static inline [\w ]+?[ *]+(cc_\w*[a-z])\(", HEADER.read_text(), re.M))
+    wanted = {name for name in re.findall(r"\b(cc_\w+)\(\w", HEADER.read_text()) if not name.endswith(CHECKED)}
     yield from (f"no place for {name}" for name in sorted(wanted) if f"\\fB{name}\\fP(" not in text)
     if shutil.which("man"):
         said = subprocess.run(["man", "--warnings", "-l", PAGE], stdout=subprocess.DEVNULL, stderr=subprocess.PIPE, text=True)

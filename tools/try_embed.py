@@ -5,7 +5,7 @@ usage: tools/try_embed.py [--build FOLDER] [--program PROGRAM] [--pages N] [--se
 
 `make lib` has to have left libcc.a and libcc.so in FOLDER (build/). Callers in C, C++, Python and Rust play the page
 of examples/embed, and their pictures have to equal the stored ones (examples/embed/*.png); tools/data/rules.c tries
-what the header says of errors, null pointers and buffers. Then N random pages (60) are played through the library and,
+what the header says of empty handles, errors, null pointers and buffers. Then N random pages (60) are played through the library and,
 as scripts of the same effects, through PROGRAM (crates/cc_player/out/cc_player), and each picture is compared. What is
 not installed (a second compiler, cargo, SDL2) is skipped with a line that says so. It ends with 1 where anything
 differs.
@@ -90,6 +90,25 @@ def the_first(compiler, build, room):
     is_stored(run(room / "first"), "first")
 
 
+# How a program of the first version of the interface began.
+OLD_PROGRAM = """
+#include "cc.h"
+int main(void) {
+  cc *page;
+  return cc_new(160, 120, 64, 0xffffffff, 1 << 20, &page) != CC_DONE;
+}
+"""
+
+
+def an_old_program(compiler, room):
+    """A program of another version of the interface is told so by the compiler."""
+    (room / "old.c").write_text(OLD_PROGRAM)
+    done = subprocess.run([compiler, "-std=c11", "-fsyntax-only", "-I", ROOT / "include", room / "old.c"], capture_output=True, text=True)
+    if not done.returncode or "cc" not in done.stderr:
+        raise Fault("%s takes a program of version 1 of the interface" % compiler)
+    return "refused by " + compiler
+
+
 def the_rules(compiler, build, room, *more):
     compiled(compiler, ROOT / "tools" / "data" / "rules.c", room / "rules", build, *more)
     run(room / "rules")
@@ -100,6 +119,12 @@ def refused(compiler, build, room, *more):
     wrap = ["-Wl,--wrap=malloc", "-Wl,--wrap=realloc"]
     compiled(compiler, ROOT / "tools" / "data" / "refuse.c", room / "refuse", build, *more, *wrap)
     return run(room / "refuse").decode().strip()
+
+
+def kept(compiler, build, room):
+    compiled(compiler, ROOT / "tools" / "data" / "kept.c", room / "kept", build, "-Wl,--wrap=malloc", "-Wl,--wrap=realloc")
+    run(room / "kept")
+    return "as the budget says"
 
 
 def in_python(build, room):
@@ -342,7 +367,8 @@ def tries(build, program, pages, seed):
     compiler = next(filter(shutil.which, COMPILERS), COMPILERS[0])
     quick = [(compiler, "demo by " + compiler, lambda room: in_c(compiler, build, room)),
              (compiler, "first.c", lambda room: the_first(compiler, build, room)),
-             (compiler, "errors, null pointers and buffers", lambda room: the_rules(compiler, build, room)),
+             (compiler, "empty handles, errors, null pointers and buffers", lambda room: the_rules(compiler, build, room)),
+             (compiler, "a program of version 1", lambda room: an_old_program(compiler, room)),
              (sys.executable, "demo in Python", lambda room: in_python(build, room)),
              (sys.executable, "use after the end, and by another thread, in Python", lambda room: misused_in_python(build, room)),
              ("cargo", "demo in Rust", lambda room: in_rust(build, room)),
@@ -351,10 +377,11 @@ def tries(build, program, pages, seed):
             for other in ("gcc", "clang", "g++") if other != compiler]
     slow += [(other, "demo by %s under ASan and UBSan" % other, lambda room, c=other: in_c(c, build, room, *SANITIZERS))
              for other in ("gcc", "clang")]
-    slow += [("gcc", "errors, null pointers and buffers under ASan and UBSan",
+    slow += [("gcc", "empty handles, errors, null pointers and buffers under ASan and UBSan",
               lambda room: the_rules("gcc", build, room, *SANITIZERS)),
              ("gcc", "refused allocations", lambda room: refused("gcc", build, room)),
              ("gcc", "refused allocations under ASan and UBSan", lambda room: refused("gcc", build, room, *SANITIZERS)),
+             ("gcc", "tiles that are kept", lambda room: kept("gcc", build, room)),
              ("sdl2-config", "a window", lambda room: in_a_window(build, room))]
     return quick, slow
 

@@ -36,7 +36,7 @@ use_library() {
     # shellcheck disable=SC2086
     gcc -std=c11 -Wall -Werror "$source" $flags -o "$room/shared" && "$room/shared" > "$room/shared.ppm" \
         && cmp -s "$room/shared.ppm" /given/embed.ppm || fault "$2: the C program with the shared library"
-    ldd "$room/shared" | grep -q 'libcc.so.1 => /' || fault "$2: the C program has no libcc.so.1"
+    ldd "$room/shared" | grep -q 'libcc\.so\.[0-9]* => /' || fault "$2: the C program has no libcc.so"
     # shellcheck disable=SC2046
     gcc -std=c11 -static-pie "$source" $(pkg-config --cflags cc) "$(pkg-config --variable=libdir cc)/libcc.a" -o "$room/static" \
         && env -i "$room/static" | cmp -s - /given/embed.ppm || fault "$2: the C program with the archive"

@@ -8,7 +8,7 @@
     page.pixels()            # bytes: red, green, blue and alpha of each pixel
 
 The library is that of the path CC_LIBRARY, or else the one that came with this module, or else the system's. A call that
-the library refuses raises `Refused`, one that runs out of memory MemoryError, a number that no page could take
+the library refuses raises `Refused`, one that runs out of memory MemoryError, numbers that are wrong by themselves
 ValueError. A compositor is used by one thread, the one that made it, until it is closed: another thread, and any call
 afterwards, gets a RuntimeError. docs/EMBEDDING.md says what the calls do.
 """
@@ -18,15 +18,19 @@ import os
 import pathlib
 import threading
 
-VERSION = 1
+VERSION = 2
 SONAME = f"libcc.so.{VERSION}"
-DONE, BAD, UNKNOWN, REFUSED, SHORT, MEMORY = 0, 1, 2, 3, 4, 11
+DONE, BAD, UNKNOWN, REFUSED, SHORT, NONE, TAKEN, MEMORY = 0, 1, 2, 3, 4, 5, 6, 11
 RGBA, BGRA = 0, 1
 FAULTS = {1: "a layer or node is not there", 2: "the id is taken", 3: "a place past the end of the list",
-          4: "one more than there may be", 5: "a value is out of its range",
-          6: "the layers of an effect would not stand together"}
-STATUSES = {BAD: "a number is outside what any page could take", UNKNOWN: "the active page has no such scroller",
-            SHORT: "the buffer is too small"}
+          4: "one more than {limit}", 5: "{value} passes {limit}",
+          6: "the layers of an effect would not stand together", 7: "no command has the number {value}",
+          8: "{value} fields, and the command takes {limit}", 9: "field {field} is {value}, and may not be below 0",
+          10: "a colour is not premultiplied", 11: "a side of a bitmap is not 1 to 256",
+          12: "{value} bytes, and the bitmap takes {limit}"}
+STATUSES = {BAD: "a number is wrong", UNKNOWN: "the active page has no such scroller",
+            SHORT: "the buffer is too small, or the frame has no such row", NONE: "there is no compositor",
+            TAKEN: "there is a compositor already"}
 
 RANGES = {ctypes.c_int32: range(-(1 << 31), 1 << 31), ctypes.c_uint32: range(1 << 32), ctypes.c_size_t: range(1 << 63)}
 
@@ -38,8 +42,17 @@ def within(kinds, words):
             raise ValueError(STATUSES[BAD])
 
 
+class Handle(ctypes.Structure):
+    """What a program keeps of a compositor; of none at first."""
+    _fields_ = [("at", ctypes.c_void_p)]
+
+
 class Fault(ctypes.Structure):
-    _fields_ = [("why", ctypes.c_uint32), ("value", ctypes.c_int64), ("limit", ctypes.c_int64)]
+    _fields_ = [("why", ctypes.c_uint32), ("field", ctypes.c_uint32), ("value", ctypes.c_int64), ("limit", ctypes.c_int64)]
+
+    def text(self):
+        """The fault in words."""
+        return FAULTS[self.why].format(field=self.field, value=self.value, limit=self.limit)
 
 
 class Rect(ctypes.Structure):
@@ -50,7 +63,7 @@ class Refused(Exception):
     """The page refuses a command. `why` is the number of the fault, `value` and `limit` say more of it."""
 
     def __init__(self, fault):
-        super().__init__(FAULTS[fault.why] + (f": {fault.value} passes {fault.limit}" if fault.why == 5 else ""))
+        super().__init__(fault.text())
         self.why, self.value, self.limit = fault.why, fault.value, fault.limit
 
 
@@ -63,30 +76,31 @@ def library_path():
 def load(path=None):
     """The library, with the types of its functions."""
     library = ctypes.CDLL(path or library_path())
-    pointer, u32, i32, size, octets = ctypes.c_void_p, ctypes.c_uint32, ctypes.c_int32, ctypes.c_size_t, ctypes.c_char_p
-    to = ctypes.POINTER
+    u32, i32, size, octets, to = ctypes.c_uint32, ctypes.c_int32, ctypes.c_size_t, ctypes.c_char_p, ctypes.POINTER
+    page = to(Handle)
     types = {
         "cc_version": (u32,),
-        "cc_new_": (u32, u32, u32, u32, u32, size, to(pointer)),
-        "cc_free_": (None, pointer),
-        "cc_reset_": (u32, pointer, u32, u32, u32, to(pointer)),
-        "cc_edit_": (u32, pointer, u32, to(i32), size, u32, octets, size, to(Fault), to(pointer)),
-        "cc_commit_": (u32, pointer, to(pointer)),
-        "cc_scroll_": (u32, pointer, u32, i32, i32, to(i32), to(i32), to(pointer)),
-        "cc_wheel_": (u32, pointer, i32, i32, i32, i32, to(i32), to(i32), to(pointer)),
-        "cc_offset_": (None, pointer, u32, to(i32), to(i32), to(pointer)),
-        "cc_target_": (u32, pointer, i32, i32, to(u32), to(pointer)),
-        "cc_is_changed_": (u32, pointer, to(pointer)),
-        "cc_draw_": (u32, pointer, to(u32), to(u32), to(pointer)),
-        "cc_damage_": (size, pointer, to(Rect), size, to(pointer)),
-        "cc_size_": (None, pointer, to(u32), to(u32), to(pointer)),
-        "cc_copy_": (u32, pointer, u32, u32, u32, size, pointer, size, to(pointer)),
+        "cc_new": (u32, page, u32, u32, u32, u32, size),
+        "cc_free": (None, page),
+        "cc_reset": (u32, page, u32, u32, u32),
+        "cc_edit": (u32, page, u32, to(i32), size, u32, octets, size, to(Fault)),
+        "cc_commit": (u32, page),
+        "cc_scroll": (u32, page, u32, i32, i32, to(i32), to(i32)),
+        "cc_wheel": (u32, page, i32, i32, i32, i32, to(i32), to(i32)),
+        "cc_offset": (u32, page, u32, to(i32), to(i32)),
+        "cc_target": (u32, page, i32, i32, to(u32)),
+        "cc_is_changed": (u32, page, to(u32)),
+        "cc_draw": (u32, page, to(u32), to(u32)),
+        "cc_damage": (u32, page, to(Rect), size, to(size)),
+        "cc_size": (u32, page, to(u32), to(u32)),
+        "cc_copy": (u32, page, u32, u32, u32, size, ctypes.c_void_p, size),
+        "cc_trim": (u32, page),
     }
+    if library.cc_version() != VERSION:
+        raise OSError(f"libcc has version {library.cc_version()}, this module is for {VERSION}")
     for name, (answer, *parameters) in types.items():
         function = getattr(library, name)
         function.restype, function.argtypes = answer, parameters
-    if library.cc_version() != VERSION:
-        raise OSError(f"libcc has version {library.cc_version()}, this module is for {VERSION}")
     return library
 
 
@@ -94,22 +108,16 @@ class Compositor:
     """A main page, which commands change, an active page, which is shown, and a frame."""
 
     def __init__(self, w, h, tile=256, background=0xFFFFFFFF, budget=64 << 20, library=None):
-        self._handle = ctypes.c_void_p()
+        self._handle = Handle()
         self._thread = threading.get_ident()
         self._library = library or load()
-        words = w, h, tile, background, budget
-        within(self._library.cc_new_.argtypes, words)
-        self._answer(self._library.cc_new_(*words, ctypes.byref(self._handle)))
+        self._answer(self._status("cc_new", w, h, tile, background, budget))
 
     def close(self):
         """Ends the compositor, once."""
-        if self._handle:
+        if self._handle.at:
             self._look_at_thread()
-            self._free()
-
-    def _free(self):
-        handle, self._handle = self._handle, ctypes.c_void_p()
-        self._library.cc_free_(handle)
+            self._library.cc_free(ctypes.byref(self._handle))
 
     def _look_at_thread(self):
         """Raises RuntimeError on another thread: ctypes lets threads run side by side in the library, which has no lock."""
@@ -123,16 +131,21 @@ class Compositor:
         self.close()
 
     def __del__(self):
-        if getattr(self, "_library", None) and self._handle:
-            self._free()
+        if getattr(self, "_library", None) and self._handle.at:
+            self._library.cc_free(ctypes.byref(self._handle))
 
-    def _call(self, name, *words):
-        if not self._handle:
-            raise RuntimeError("the compositor is closed")
-        self._look_at_thread()
+    def _status(self, name, *words):
+        """What a call answers; a number that its type of C lacks is a ValueError."""
         function = getattr(self._library, name)
         within(function.argtypes[1:], words)
-        return function(self._handle, *words, ctypes.byref(self._handle))
+        return function(ctypes.byref(self._handle), *words)
+
+    def _call(self, name, *words, fault=None):
+        """A call of a compositor, on its thread: any status but DONE is an exception."""
+        if not self._handle.at:
+            raise RuntimeError("the compositor is closed")
+        self._look_at_thread()
+        self._answer(self._status(name, *words), fault)
 
     @staticmethod
     def _answer(status, fault=None):
@@ -140,69 +153,77 @@ class Compositor:
             raise Refused(fault)
         if status == MEMORY:
             raise MemoryError
+        if status == BAD and fault:
+            raise ValueError(fault.text())
         if status != DONE:
             raise ValueError(STATUSES[status])
 
     def _edit(self, op, *fields, colour=0, pixels=b""):
         within((ctypes.c_int32,) * len(fields), fields)
         fault, list_of = Fault(), (ctypes.c_int32 * len(fields))(*fields)
-        told = ctypes.byref(fault)
-        self._answer(self._call("cc_edit_", op, list_of, len(fields), colour, pixels, len(pixels), told), fault)
+        self._call("cc_edit", op, list_of, len(fields), colour, pixels, len(pixels), ctypes.byref(fault), fault=fault)
 
     def reset(self, w, h, tile=256):
         """Starts the main page anew, so that all ids are free."""
-        self._answer(self._call("cc_reset_", w, h, tile))
+        self._call("cc_reset", w, h, tile)
 
     def commit(self):
         """Shows what the commands made of the main page."""
-        self._answer(self._call("cc_commit_"))
+        self._call("cc_commit")
 
     def scroll(self, scroller, dx, dy):
         """Scrolls the active page, and tells how far."""
         x, y = ctypes.c_int32(), ctypes.c_int32()
-        self._answer(self._call("cc_scroll_", scroller, dx, dy, ctypes.byref(x), ctypes.byref(y)))
+        self._call("cc_scroll", scroller, dx, dy, ctypes.byref(x), ctypes.byref(y))
         return x.value, y.value
 
     def wheel(self, x, y, dx, dy):
         """Scrolls what lies under a point, and tells what none of the scrollers took."""
         rest_x, rest_y = ctypes.c_int32(), ctypes.c_int32()
-        self._answer(self._call("cc_wheel_", x, y, dx, dy, ctypes.byref(rest_x), ctypes.byref(rest_y)))
+        self._call("cc_wheel", x, y, dx, dy, ctypes.byref(rest_x), ctypes.byref(rest_y))
         return rest_x.value, rest_y.value
 
     def offset(self, scroller):
         """Where a scroller of the active page stands; (0, 0) where there is none."""
         x, y = ctypes.c_int32(), ctypes.c_int32()
-        self._call("cc_offset_", scroller, ctypes.byref(x), ctypes.byref(y))
+        self._call("cc_offset", scroller, ctypes.byref(x), ctypes.byref(y))
         return x.value, y.value
 
     def target(self, x, y):
         """The topmost layer at a point; 0 where there is none."""
         layer = ctypes.c_uint32()
-        self._answer(self._call("cc_target_", x, y, ctypes.byref(layer)))
+        self._call("cc_target", x, y, ctypes.byref(layer))
         return layer.value
 
     @property
     def is_changed(self):
         """Whether a draw may change the frame."""
-        return self._call("cc_is_changed_") != 0
+        changed = ctypes.c_uint32()
+        self._call("cc_is_changed", ctypes.byref(changed))
+        return changed.value != 0
 
     def draw(self):
         """Draws the active page. The rows outside of (top, bottom) are as they were."""
         top, bottom = ctypes.c_uint32(), ctypes.c_uint32()
-        self._answer(self._call("cc_draw_", ctypes.byref(top), ctypes.byref(bottom)))
+        self._call("cc_draw", ctypes.byref(top), ctypes.byref(bottom))
         return top.value, bottom.value
 
     def damage(self):
-        """The rects (x, y, w, h) outside of which the last draw left the frame as it was."""
-        count = self._call("cc_damage_", (Rect * 1)(), 0)
-        rects = (Rect * max(count, 1))()
-        self._call("cc_damage_", rects, count)
-        return [(r.x, r.y, r.w, r.h) for r in rects[:count]]
+        """The rects (x, y, w, h) of the frame outside of which the last draw left it as it was."""
+        count = ctypes.c_size_t()
+        self._call("cc_damage", (Rect * 1)(), 0, ctypes.byref(count))
+        rects = (Rect * max(count.value, 1))()
+        self._call("cc_damage", rects, count.value, ctypes.byref(count))
+        return [(r.x, r.y, r.w, r.h) for r in rects[:count.value]]
+
+    def trim(self):
+        """Frees the images of tiles that the last draw did not use."""
+        self._call("cc_trim")
 
     def size(self):
         """The frame's width and height."""
         w, h = ctypes.c_uint32(), ctypes.c_uint32()
-        self._call("cc_size_", ctypes.byref(w), ctypes.byref(h))
+        self._call("cc_size", ctypes.byref(w), ctypes.byref(h))
         return w.value, h.value
 
     def pixels(self, order=RGBA):
@@ -213,7 +234,7 @@ class Compositor:
     def copy_into(self, buffer, stride, top, bottom, order=RGBA):
         """Copies rows of the frame into a writable buffer whose rows begin `stride` bytes apart; answers the buffer."""
         room = (ctypes.c_uint8 * len(buffer)).from_buffer(buffer)
-        self._answer(self._call("cc_copy_", order, top, bottom, stride, ctypes.addressof(room), len(buffer)))
+        self._call("cc_copy", order, top, bottom, stride, ctypes.addressof(room), len(buffer))
         return buffer
 
     # The commands, which change the main page: made by tools/command_fields.py.

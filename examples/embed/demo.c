@@ -19,7 +19,7 @@ static void need(uint32_t status, const char *what) {
   exit(1);
 }
 
-static void build(cc *page) {
+static void build(cc_compositor *page) {
   need(cc_add_scroller(page, 1, 0, 0, 400, NULL), "scroller");
   need(cc_add_transform(page, ROWS, 0, 0, 20, 1, NULL), "transform of the list");
   need(cc_add_transform(page, CARDS, 0, 90, 60, 0, NULL), "transform of the card");
@@ -37,7 +37,7 @@ static void build(cc *page) {
 }
 
 /* A bitmap in the header: 12 by 12 pixels. */
-static void put_icon(cc *page) {
+static void put_icon(cc_compositor *page) {
   uint8_t icon[12 * 12 * 4];
   for (int i = 0; i < 12 * 12; i++) {
     icon[4 * i] = (uint8_t)(255 - i);
@@ -45,16 +45,17 @@ static void put_icon(cc *page) {
     icon[4 * i + 2] = 90;
     icon[4 * i + 3] = 255;
   }
-  need(cc_insert_bitmap(page, HEADER, 1, 4, 4, 12, 12, icon, NULL), "icon");
+  need(cc_insert_bitmap(page, HEADER, 1, 4, 4, 12, 12, icon, sizeof icon, NULL), "icon");
 }
 
-static void picture(cc *page, const char *folder, const char *name) {
+static void picture(cc_compositor *page, const char *folder, const char *name) {
   static uint8_t pixels[WIDTH * HEIGHT * 4];
   uint32_t top, bottom;
   cc_rect rect = {0, 0, 0, 0};
   char path[1024];
   need(cc_draw(page, &top, &bottom), "draw");
-  const size_t rects = cc_damage(page, &rect, 1);
+  size_t rects;
+  need(cc_damage(page, &rect, 1, &rects), "damage");
   need(cc_copy(page, CC_RGBA, 0, HEIGHT, 4 * WIDTH, pixels, sizeof pixels), "copy");
   snprintf(path, sizeof path, "%s/%s.ppm", folder, name);
   FILE *file = fopen(path, "wb");
@@ -75,12 +76,12 @@ static void picture(cc *page, const char *folder, const char *name) {
 
 int main(int argc, char **argv) {
   const char *folder = argc > 1 ? argv[1] : ".";
-  cc *page;
+  cc_compositor made = CC_EMPTY, *page = &made;
   cc_fault fault;
-  uint32_t layer;
+  uint32_t layer, changed;
   int32_t x, y, rest_x, rest_y;
   if (cc_version() != CC_VERSION) return 1;
-  need(cc_new(WIDTH, HEIGHT, 32, 0xffffffff, 64 << 20, &page), "new");
+  need(cc_new(page, WIDTH, HEIGHT, 32, 0xffffffff, 64 << 20), "new");
   build(page);
   put_icon(page);
   need(cc_commit(page), "commit");
@@ -91,7 +92,7 @@ int main(int argc, char **argv) {
   picture(page, folder, "again");
 
   need(cc_wheel(page, 20, 60, 0, 1000, &rest_x, &rest_y), "wheel");
-  cc_offset(page, 1, &x, &y);
+  need(cc_offset(page, 1, &x, &y), "offset");
   printf("the list stands at %d, %d and left %d, %d\n", x, y, rest_x, rest_y);
   picture(page, folder, "end");
 
@@ -106,7 +107,8 @@ int main(int argc, char **argv) {
   need(cc_set_transform(page, CARDS, 10, 30, NULL), "move the card");
   need(cc_set_opacity(page, 1, 255, NULL), "opacity");
   need(cc_replace_rect(page, LIST, 17, 0, 25 * 17, WIDTH, 25, 0xffcc00ff, NULL), "a row");
-  printf("before the commit a draw has %s\n", cc_is_changed(page) ? "work" : "no work");
+  need(cc_is_changed(page, &changed), "is changed");
+  printf("before the commit a draw has %s\n", changed ? "work" : "no work");
   need(cc_commit(page), "commit");
   picture(page, folder, "changed");
 

@@ -14,10 +14,14 @@
 //!
 //! docs/EMBEDDING.md says what the calls do. A `Compositor` is neither `Send` nor `Sync`.
 
+use std::cell::UnsafeCell;
 use std::ffi::c_void;
 use std::fmt;
 use std::ops::Range;
 use std::ptr;
+
+/// The version of the interface that this crate is for.
+pub const VERSION: u32 = 2;
 
 /// Why a page refuses a command.
 #[derive(Clone, Copy, Debug, PartialEq, Eq)]
@@ -30,25 +34,55 @@ pub enum Fault {
     NotNested,
 }
 
+/// Why the numbers of a command are wrong, whatever the page.
+#[derive(Clone, Copy, Debug, PartialEq, Eq)]
+pub enum BadNumbers {
+    /// The field with this number, from 0, may not be below 0.
+    BelowZero { field: u32, value: i64 },
+    /// Red, green or blue of the colour, or of a pixel of a bitmap, exceeds its alpha.
+    NotPremultiplied,
+    /// A side of a bitmap is not 1 to 256.
+    BitmapSide,
+    /// A bitmap takes another number of bytes.
+    BitmapBytes { given: i64, wanted: i64 },
+    /// The command has no such number, or takes another number of fields.
+    NoCommand,
+}
+
 /// Why a call did nothing.
 #[derive(Clone, Copy, Debug, PartialEq, Eq)]
 pub enum Error {
-    /// A number is outside what any page could take, or a colour is not premultiplied.
+    /// A number is outside its range, or a colour is not premultiplied.
     Bad,
+    /// The numbers of a command are wrong.
+    BadNumbers(BadNumbers),
     /// The active page has no such scroller.
     Unknown,
     /// The page refuses the command.
     Refused(Fault),
-    /// The buffer is too small, or its rows are too short.
+    /// The buffer is too small, its rows are too short, or the frame lacks one of them.
     Short,
     /// Memory ran out.
     Memory,
+    /// The library that is linked has this version of the interface, and not [`VERSION`].
+    Version(u32),
+    /// The library answered a status that this crate does not know.
+    Status(u32),
 }
 
 impl fmt::Display for Error {
     fn fmt(&self, to: &mut fmt::Formatter<'_>) -> fmt::Result {
         match self {
-            Error::Bad => write!(to, "a number is outside what any page could take"),
+            Error::Bad => write!(to, "a number is out of its range, or a colour is not premultiplied"),
+            Error::BadNumbers(BadNumbers::BelowZero { field, value }) => {
+                write!(to, "field {field} is {value}, and may not be below 0")
+            }
+            Error::BadNumbers(BadNumbers::NotPremultiplied) => write!(to, "a colour is not premultiplied"),
+            Error::BadNumbers(BadNumbers::BitmapSide) => write!(to, "a side of a bitmap is not 1 to 256"),
+            Error::BadNumbers(BadNumbers::BitmapBytes { given, wanted }) => {
+                write!(to, "{given} bytes, and the bitmap takes {wanted}")
+            }
+            Error::BadNumbers(BadNumbers::NoCommand) => write!(to, "there is no such command"),
             Error::Unknown => write!(to, "the active page has no such scroller"),
             Error::Refused(Fault::UnknownId) => write!(to, "a layer or node is not there"),
             Error::Refused(Fault::IdUsed) => write!(to, "the id is taken"),
@@ -56,8 +90,10 @@ impl fmt::Display for Error {
             Error::Refused(Fault::TooMany { limit }) => write!(to, "one more than {limit}"),
             Error::Refused(Fault::OutOfRange { value, limit }) => write!(to, "{value} passes {limit}"),
             Error::Refused(Fault::NotNested) => write!(to, "the layers of an effect would not stand together"),
-            Error::Short => write!(to, "the buffer is too small"),
+            Error::Short => write!(to, "the buffer is too small, or the frame has no such row"),
             Error::Memory => write!(to, "out of memory"),
+            Error::Version(found) => write!(to, "libcc has version {found}, this crate is for {VERSION}"),
+            Error::Status(status) => write!(to, "libcc answered the unknown status {status}"),
         }
     }
 }
@@ -74,9 +110,16 @@ pub enum Order {
 /// Left, top, width and height.
 pub type Rect = (i32, i32, i32, i32);
 
+/// What is kept of a compositor.
+#[repr(C)]
+struct Handle {
+    at: *mut c_void,
+}
+
 #[repr(C)]
 struct FaultOfC {
     why: u32,
+    field: u32,
     value: i64,
     limit: i64,
 }
@@ -91,11 +134,12 @@ struct RectOfC {
 }
 
 extern "C" {
-    fn cc_new_(w: u32, h: u32, tile: u32, rgba: u32, budget: usize, out: *mut *mut c_void) -> u32;
-    fn cc_free_(page: *mut c_void);
-    fn cc_reset_(page: *mut c_void, w: u32, h: u32, tile: u32, out: *mut *mut c_void) -> u32;
-    fn cc_edit_(
-        page: *mut c_void,
+    fn cc_version() -> u32;
+    fn cc_new(page: *mut Handle, w: u32, h: u32, tile: u32, rgba: u32, budget: usize) -> u32;
+    fn cc_free(page: *mut Handle);
+    fn cc_reset(page: *mut Handle, w: u32, h: u32, tile: u32) -> u32;
+    fn cc_edit(
+        page: *mut Handle,
         op: u32,
         fields: *const i32,
         count: usize,
@@ -103,44 +147,18 @@ extern "C" {
         pixels: *const u8,
         bytes: usize,
         fault: *mut FaultOfC,
-        out: *mut *mut c_void,
     ) -> u32;
-    fn cc_commit_(page: *mut c_void, out: *mut *mut c_void) -> u32;
-    fn cc_scroll_(
-        page: *mut c_void,
-        scroller: u32,
-        dx: i32,
-        dy: i32,
-        by_x: *mut i32,
-        by_y: *mut i32,
-        out: *mut *mut c_void,
-    ) -> u32;
-    fn cc_wheel_(
-        page: *mut c_void,
-        x: i32,
-        y: i32,
-        dx: i32,
-        dy: i32,
-        rest_x: *mut i32,
-        rest_y: *mut i32,
-        out: *mut *mut c_void,
-    ) -> u32;
-    fn cc_offset_(page: *mut c_void, scroller: u32, x: *mut i32, y: *mut i32, out: *mut *mut c_void);
-    fn cc_target_(page: *mut c_void, x: i32, y: i32, layer: *mut u32, out: *mut *mut c_void) -> u32;
-    fn cc_is_changed_(page: *mut c_void, out: *mut *mut c_void) -> u32;
-    fn cc_draw_(page: *mut c_void, top: *mut u32, bottom: *mut u32, out: *mut *mut c_void) -> u32;
-    fn cc_damage_(page: *mut c_void, rects: *mut RectOfC, count: usize, out: *mut *mut c_void) -> usize;
-    fn cc_size_(page: *mut c_void, w: *mut u32, h: *mut u32, out: *mut *mut c_void);
-    fn cc_copy_(
-        page: *mut c_void,
-        order: u32,
-        top: u32,
-        bottom: u32,
-        stride: usize,
-        to: *mut u8,
-        bytes: usize,
-        out: *mut *mut c_void,
-    ) -> u32;
+    fn cc_commit(page: *mut Handle) -> u32;
+    fn cc_scroll(page: *mut Handle, scroller: u32, dx: i32, dy: i32, by_x: *mut i32, by_y: *mut i32) -> u32;
+    fn cc_wheel(page: *mut Handle, x: i32, y: i32, dx: i32, dy: i32, rest_x: *mut i32, rest_y: *mut i32) -> u32;
+    fn cc_offset(page: *mut Handle, scroller: u32, x: *mut i32, y: *mut i32) -> u32;
+    fn cc_target(page: *mut Handle, x: i32, y: i32, layer: *mut u32) -> u32;
+    fn cc_is_changed(page: *mut Handle, changed: *mut u32) -> u32;
+    fn cc_draw(page: *mut Handle, top: *mut u32, bottom: *mut u32) -> u32;
+    fn cc_damage(page: *mut Handle, rects: *mut RectOfC, room: usize, count: *mut usize) -> u32;
+    fn cc_size(page: *mut Handle, w: *mut u32, h: *mut u32) -> u32;
+    fn cc_copy(page: *mut Handle, order: u32, top: u32, bottom: u32, stride: usize, to: *mut u8, bytes: usize) -> u32;
+    fn cc_trim(page: *mut Handle) -> u32;
 }
 
 fn answer(status: u32) -> Result<(), Error> {
@@ -149,120 +167,144 @@ fn answer(status: u32) -> Result<(), Error> {
         1 => Err(Error::Bad),
         2 => Err(Error::Unknown),
         4 => Err(Error::Short),
-        _ => Err(Error::Memory),
+        11 => Err(Error::Memory),
+        _ => Err(Error::Status(status)),
+    }
+}
+
+fn answer_of_edit(status: u32, fault: &FaultOfC) -> Result<(), Error> {
+    let FaultOfC { field, value, limit, .. } = *fault;
+    match (status, fault.why) {
+        (3, 1) => Err(Error::Refused(Fault::UnknownId)),
+        (3, 2) => Err(Error::Refused(Fault::IdUsed)),
+        (3, 3) => Err(Error::Refused(Fault::BadPlace)),
+        (3, 4) => Err(Error::Refused(Fault::TooMany { limit })),
+        (3, 5) => Err(Error::Refused(Fault::OutOfRange { value, limit })),
+        (3, 6) => Err(Error::Refused(Fault::NotNested)),
+        (1, 9) => Err(Error::BadNumbers(BadNumbers::BelowZero { field, value })),
+        (1, 10) => Err(Error::BadNumbers(BadNumbers::NotPremultiplied)),
+        (1, 11) => Err(Error::BadNumbers(BadNumbers::BitmapSide)),
+        (1, 12) => Err(Error::BadNumbers(BadNumbers::BitmapBytes { given: value, wanted: limit })),
+        (1, _) => Err(Error::BadNumbers(BadNumbers::NoCommand)),
+        _ => answer(status),
     }
 }
 
 /// A main page, which commands change, an active page, which is shown, and a frame.
-pub struct Compositor(*mut c_void);
+pub struct Compositor {
+    // A cell, as each call takes the compositor out of the handle and puts it back, even one that changes nothing.
+    handle: UnsafeCell<Handle>,
+}
 
-// SAFETY of each block: the pointer is that of a compositor which `new` got and `drop` has not ended; `&mut self`, or a
-// type that is not `Sync`, lets one call have it at a time; each call leaves the pointer as it was; the references that
-// a call is given are of this frame alone and do not overlap.
+// SAFETY of each block: the handle is that of a compositor which `new` made and `drop` has not ended; `&mut self`, or a
+// type that is not `Sync`, lets one call have it at a time; the references that a call is given are of this frame alone
+// and do not overlap.
 impl Compositor {
     /// A compositor of an empty page: a view of 1 to 2048 pixels a side, tiles of 16 to 256, a premultiplied background
-    /// 0xRRGGBBAA, and how many bytes the images of tiles may take that a draw did not use.
+    /// 0xRRGGBBAA, and how many bytes the images of tiles may take beside those that the last draw used.
     pub fn new(w: u32, h: u32, tile: u32, background: u32, budget: usize) -> Result<Compositor, Error> {
-        let mut page = ptr::null_mut();
-        answer(unsafe { cc_new_(w, h, tile, background, budget, &mut page) })?;
-        Ok(Compositor(page))
+        let found = unsafe { cc_version() };
+        if found != VERSION {
+            return Err(Error::Version(found));
+        }
+        let page = Compositor {
+            handle: UnsafeCell::new(Handle { at: ptr::null_mut() }),
+        };
+        answer(unsafe { cc_new(page.handle.get(), w, h, tile, background, budget) })?;
+        Ok(page)
     }
 
     /// Starts the main page anew, so that all ids are free. The active page is shown until the next commit.
     pub fn reset(&mut self, w: u32, h: u32, tile: u32) -> Result<(), Error> {
-        answer(unsafe { cc_reset_(self.0, w, h, tile, &mut self.0) })
+        answer(unsafe { cc_reset(self.handle.get(), w, h, tile) })
     }
 
     /// Shows what the commands made of the main page.
     pub fn commit(&mut self) -> Result<(), Error> {
-        answer(unsafe { cc_commit_(self.0, &mut self.0) })
+        answer(unsafe { cc_commit(self.handle.get()) })
     }
 
     /// Scrolls the active page as far as the scroller's range allows, and tells how far.
     pub fn scroll(&mut self, scroller: u32, dx: i32, dy: i32) -> Result<(i32, i32), Error> {
         let mut by = (0, 0);
-        answer(unsafe { cc_scroll_(self.0, scroller, dx, dy, &mut by.0, &mut by.1, &mut self.0) })?;
+        answer(unsafe { cc_scroll(self.handle.get(), scroller, dx, dy, &mut by.0, &mut by.1) })?;
         Ok(by)
     }
 
     /// Scrolls what lies under a point, and tells what none of the scrollers took.
     pub fn wheel(&mut self, x: i32, y: i32, dx: i32, dy: i32) -> Result<(i32, i32), Error> {
         let mut rest = (0, 0);
-        answer(unsafe { cc_wheel_(self.0, x, y, dx, dy, &mut rest.0, &mut rest.1, &mut self.0) })?;
+        answer(unsafe { cc_wheel(self.handle.get(), x, y, dx, dy, &mut rest.0, &mut rest.1) })?;
         Ok(rest)
     }
 
-    /// Where a scroller of the active page stands; (0, 0) where there is none.
+    /// Where a scroller of the active page stands; (0, 0) if there is none.
     pub fn offset(&self, scroller: u32) -> (i32, i32) {
-        let (mut at, mut out) = ((0, 0), self.0);
-        unsafe { cc_offset_(self.0, scroller, &mut at.0, &mut at.1, &mut out) };
+        let mut at = (0, 0);
+        unsafe { cc_offset(self.handle.get(), scroller, &mut at.0, &mut at.1) };
         at
     }
 
-    /// The topmost layer at a point; 0 where there is none.
+    /// The topmost layer at a point; 0 if there is none.
     pub fn target(&self, x: i32, y: i32) -> Result<u32, Error> {
-        let (mut layer, mut out) = (0, self.0);
-        answer(unsafe { cc_target_(self.0, x, y, &mut layer, &mut out) })?;
+        let mut layer = 0;
+        answer(unsafe { cc_target(self.handle.get(), x, y, &mut layer) })?;
         Ok(layer)
     }
 
     /// Whether a draw may change the frame.
     pub fn is_changed(&self) -> bool {
-        let mut out = self.0;
-        unsafe { cc_is_changed_(self.0, &mut out) != 0 }
+        let mut changed = 1;
+        unsafe { cc_is_changed(self.handle.get(), &mut changed) };
+        changed != 0
     }
 
     /// Draws the active page. The rows outside of the answer are as they were.
     pub fn draw(&mut self) -> Result<Range<u32>, Error> {
         let mut rows = 0..0;
-        answer(unsafe { cc_draw_(self.0, &mut rows.start, &mut rows.end, &mut self.0) })?;
+        answer(unsafe { cc_draw(self.handle.get(), &mut rows.start, &mut rows.end) })?;
         Ok(rows)
     }
 
-    /// The rects outside of which the last draw left the frame as it was.
+    /// The rects of the frame outside of which the last draw left it as it was.
     pub fn damage(&self) -> Vec<Rect> {
-        let (mut one, mut out) = ([RectOfC { x: 0, y: 0, w: 0, h: 0 }], self.0);
-        let count = unsafe { cc_damage_(self.0, one.as_mut_ptr(), 0, &mut out) };
+        let (mut one, mut count) = ([RectOfC { x: 0, y: 0, w: 0, h: 0 }], 0);
+        unsafe { cc_damage(self.handle.get(), one.as_mut_ptr(), 0, &mut count) };
         let mut rects = vec![one[0]; count];
         if count > 0 {
-            unsafe { cc_damage_(self.0, rects.as_mut_ptr(), count, &mut out) };
+            unsafe { cc_damage(self.handle.get(), rects.as_mut_ptr(), rects.len(), &mut count) };
         }
         rects.iter().map(|r| (r.x, r.y, r.w, r.h)).collect()
     }
 
     /// The frame's width and height.
     pub fn size(&self) -> (u32, u32) {
-        let (mut size, mut out) = ((0, 0), self.0);
-        unsafe { cc_size_(self.0, &mut size.0, &mut size.1, &mut out) };
+        let mut size = (0, 0);
+        unsafe { cc_size(self.handle.get(), &mut size.0, &mut size.1) };
         size
     }
 
     /// Copies rows of the frame into a buffer whose rows begin `stride` bytes apart.
     pub fn copy(&self, order: Order, rows: Range<u32>, stride: usize, to: &mut [u8]) -> Result<(), Error> {
-        let mut out = self.0;
-        answer(unsafe {
-            cc_copy_(
-                self.0,
-                order as u32,
-                rows.start,
-                rows.end,
-                stride,
-                to.as_mut_ptr(),
-                to.len(),
-                &mut out,
-            )
-        })
+        let (room, bytes) = (to.as_mut_ptr(), to.len());
+        answer(unsafe { cc_copy(self.handle.get(), order as u32, rows.start, rows.end, stride, room, bytes) })
+    }
+
+    /// Frees the images of tiles that the last draw did not use.
+    pub fn trim(&mut self) {
+        unsafe { cc_trim(self.handle.get()) };
     }
 
     fn edit(&mut self, op: u32, fields: &[i32], rgba: u32, pixels: &[u8]) -> Result<(), Error> {
         let mut fault = FaultOfC {
             why: 0,
+            field: 0,
             value: 0,
             limit: 0,
         };
         let status = unsafe {
-            cc_edit_(
-                self.0,
+            cc_edit(
+                self.handle.get(),
                 op,
                 fields.as_ptr(),
                 fields.len(),
@@ -270,23 +312,9 @@ impl Compositor {
                 pixels.as_ptr(),
                 pixels.len(),
                 &mut fault,
-                &mut self.0,
             )
         };
-        if status != 3 {
-            return answer(status);
-        }
-        Err(Error::Refused(match fault.why {
-            1 => Fault::UnknownId,
-            2 => Fault::IdUsed,
-            3 => Fault::BadPlace,
-            4 => Fault::TooMany { limit: fault.limit },
-            5 => Fault::OutOfRange {
-                value: fault.value,
-                limit: fault.limit,
-            },
-            _ => Fault::NotNested,
-        }))
+        answer_of_edit(status, &fault)
     }
 }
 
@@ -415,6 +443,6 @@ impl Compositor {
 
 impl Drop for Compositor {
     fn drop(&mut self) {
-        unsafe { cc_free_(self.0) }
+        unsafe { cc_free(self.handle.get()) }
     }
 }

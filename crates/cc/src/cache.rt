@@ -10,7 +10,7 @@ ghost use Rattle.page_layers.specs.Outcomes.{Accepts, ListsChange};
 ghost use Rattle.viz_quads.specs.ShownTiles.{tile_of, missing_keys, AreShownTiles};
 ghost use Rattle.cc.specs.KeptTiles.{AreKeptFor, AreCurrent};
 
-use crate::eviction::evict;
+use crate::eviction::{drop_unused, evict};
 use crate::kept_tile::KeptTile;
 use crate::making::{Draw, shown_tiles};
 use crate::marking::{drop_stale, mark, mark_all};
@@ -52,8 +52,7 @@ impl Drop for TileCache {
 }
 
 impl TileCache {
-    /// A cache without tiles. The images that the last draw did not use may take this many bytes, with those that
-    /// it used.
+    /// A cache without tiles. The images that the last draw did not use may take this many bytes.
     pub fn new(alloc: Global, budget: usize) -> TileCache
         ensures { result ≡ [] }
     {
@@ -91,6 +90,48 @@ impl TileCache {
         drop_stale(main, &mut self.tiles);
     }
 
+    /// Drops the tiles that the last draw did not use.
+    pub fn trim(&mut self, active: &LayerTree, main: &LayerTree)
+        requires kept { AreKeptFor active.now self.old }
+        requires current { AreCurrent main.now self.old }
+        ensures kept { AreKeptFor active.now self.new }
+        ensures current { AreCurrent main.now self.new }
+    {
+        drop_unused(active, main, &mut self.tiles, self.draws);
+    }
+
+    // The tiles that the active page shows, kept or made, for the draw that was counted last. If memory runs out,
+    // those that it has not used so far are dropped, and it is tried once more.
+    fn tiles_of(
+        &mut self,
+        alloc: Global,
+        active: &LayerTree,
+        main: &LayerTree,
+        offsets: &Offsets,
+        is_committed: bool,
+    ) -> Result<Vec<ShownTile>, AllocError>
+        requires offsets { AreOffsets (offset_at offsets.now) }
+        requires kept { AreKeptFor active.now self.old }
+        requires current { AreCurrent main.now self.old }
+        requires same { is_committed ≡ true → active.now ≡ main.now }
+        ensures shown { IfOk result (λ tiles. AreShownTiles active.now (offset_at offsets.now) (map tile_of tiles.items)) }
+        ensures whole { IfOk result (λ tiles. missing_keys (map tile_of tiles.items) ≡ []) }
+        ensures kept { AreKeptFor active.now self.new }
+        ensures current { AreCurrent main.now self.new }
+    {
+        let draw = Draw {
+            number: self.draws,
+            is_committed,
+        };
+        match shown_tiles(alloc, active, main, offsets, &mut self.tiles, draw) {
+            Ok(tiles) => Ok(tiles),
+            Err(_) => {
+                drop_unused(active, main, &mut self.tiles, draw.number);
+                shown_tiles(alloc, active, main, offsets, &mut self.tiles, draw)
+            }
+        }
+    }
+
     /// The tiles that the active page shows at these offsets of its scrollers, in key order, each with its image:
     /// kept, or made now and kept from now on. `is_committed` tells that the main page is the active one. An error
     /// means out of memory; what is kept then is right too.
@@ -112,12 +153,8 @@ impl TileCache {
         ensures current { AreCurrent main.now self.new }
     {
         self.draws = self.draws.saturating_add(1);
-        let draw = Draw {
-            number: self.draws,
-            is_committed,
-        };
-        let tiles = shown_tiles(alloc, active, main, offsets, &mut self.tiles, draw)?;
-        evict(active, main, &mut self.tiles, self.budget, draw.number);
+        let tiles = self.tiles_of(alloc, active, main, offsets, is_committed)?;
+        evict(active, main, &mut self.tiles, self.budget, self.draws);
         Ok(tiles)
     }
 }

@@ -81,7 +81,7 @@ impl<F: PixelFormat> Drop for Compositor<F> {
 impl<F: PixelFormat> Compositor<F> {
     /// A compositor whose pages have this view and no layers, over this colour. Its frame has the view's size, and is
     /// black and opaque until the first draw. The images of tiles that are kept may take `budget` bytes beside those
-    /// of the last draw. An error means out of memory.
+    /// that the last draw used. An error means out of memory.
     ///
     /// The view's sides are 1 to 2048, and its tiles 16 to 256.
     #[tactic(auto, using(crate::proofs::Pages::kept_none, crate::proofs::Pages::current_none, crate::proofs::Pages::committed_both, crate::proofs::Pages::edited_itself, crate::proofs::Pages::shown_none))]
@@ -221,8 +221,27 @@ impl<F: PixelFormat> Compositor<F> {
     /// Draws the active page, and tells the rows outside of which the frame's pixels are those before; `damage`
     /// then tells the rects. The frame has the view's size, and each pixel is the direct painting of the page.
     /// If the frame shows the page already, nothing is done. An error means out of memory: the frame may then
-    /// show anything, and the next draw draws it whole.
+    /// show anything, no tiles are kept that this draw did not use, and the next draw draws the frame whole.
     pub fn draw(&mut self) -> Result<FrameRows, AllocError>
+        ensures shown { OnOk result (ShowsPage F.DEPTH F.bytes_of self.new.active (offsets self.new) self.new.background self.new.frame) }
+        ensures rows { IfOk result (λ rows. IsKeptOutsideRows F.DEPTH rows self.old.frame self.new.frame) }
+        ensures inside { IfOk result (AreRowsOf self.new.frame.h) }
+        ensures rects { IsKeptOutside F.DEPTH self.new.damage self.old.frame self.new.frame }
+        ensures main { self.new.main ≡ self.old.main }
+        ensures active { self.new.active ≡ self.old.active }
+        ensures background { self.new.background ≡ self.old.background }
+    {
+        match self.draw_once() {
+            Ok(rows) => Ok(rows),
+            Err(refused) => {
+                self.trim();
+                Err(refused)
+            }
+        }
+    }
+
+    // Draws, and keeps the tiles that this draw did not use even if memory runs out.
+    fn draw_once(&mut self) -> Result<FrameRows, AllocError>
         ensures shown { OnOk result (ShowsPage F.DEPTH F.bytes_of self.new.active (offsets self.new) self.new.background self.new.frame) }
         ensures rows { IfOk result (λ rows. IsKeptOutsideRows F.DEPTH rows self.old.frame self.new.frame) }
         ensures inside { IfOk result (AreRowsOf self.new.frame.h) }
@@ -250,6 +269,13 @@ impl<F: PixelFormat> Compositor<F> {
         self.unshown = Some(Region::new(self.alloc));
         let height = self.painter.canvas().h();
         Ok(frame_rows(self.painter.damage(), height))
+    }
+
+    /// Drops the images of tiles that the last draw did not use, which later draws make anew.
+    pub fn trim(&mut self)
+        ensures { self.new ≡ self.old }
+    {
+        self.cache.trim(&self.active, &self.main);
     }
 
     /// The frame: after a draw, what it drew.

@@ -1,4 +1,4 @@
-//! Dropping tiles if they take too many bytes.
+//! Dropping tiles that a draw did not use.
 
 ghost use Rattle.std.specs.Prelude.{◌≡◌, nat_le, filter};
 ghost use Rattle.cc.specs.KeptTiles.{AreKeptFor, AreCurrent};
@@ -6,14 +6,17 @@ ghost use Rattle.cc.specs.KeptTiles.{AreKeptFor, AreCurrent};
 use crate::kept_tile::KeptTile;
 use page_layers::LayerTree;
 
-// How many draws a tile is kept that none of them used, if others are to be dropped.
-const RECENT_DRAWS: u64 = 8;
+// If tiles take too many bytes, those go first that none of the last 64 draws used, then those that none of the last
+// 32 used, and so on.
+const AGES: [u64; 7] = [64, 32, 16, 8, 4, 2, 0];
 
-// How many bytes the rows of these tiles have.
-fn bytes_of(kept: &[KeptTile]) -> usize {
+// How many bytes the rows of the tiles have that were last used before this draw.
+fn unused_bytes(kept: &[KeptTile], draw: u64) -> usize {
     let mut bytes = 0usize;
     for one in kept {
-        bytes = bytes.saturating_add(one.image.kept_bytes());
+        if one.used < draw {
+            bytes = bytes.saturating_add(one.image.kept_bytes());
+        }
     }
     bytes
 }
@@ -25,12 +28,11 @@ fn drop_used_before(kept: &mut Vec<KeptTile>, oldest: u64)
     kept.retain(|one| one.used >= oldest);
 }
 
-// Drops them if all tiles take more bytes than the budget has.
-fn drop_older(
+/// Drops the tiles that no draw used from this one on. What is kept for the pages stays so.
+pub(crate) fn drop_unused(
     active: &LayerTree,
     main: &LayerTree,
     kept: &mut Vec<KeptTile>,
-    budget: usize,
     oldest: u64,
 )
     requires kept { AreKeptFor active.now kept.old.items }
@@ -38,13 +40,11 @@ fn drop_older(
     ensures kept { AreKeptFor active.now kept.new.items }
     ensures current { AreCurrent main.now kept.new.items }
 {
-    if bytes_of(kept.as_slice()) > budget {
-        drop_used_before(kept, oldest);
-    }
+    drop_used_before(kept, oldest);
 }
 
-/// Drops tiles that this draw did not use, first those that were not used lately, until the others take at most
-/// as many bytes as the budget has or were all used by it.
+/// Drops tiles that this draw did not use, first those that were not used lately, until the others that it did not
+/// use take at most as many bytes as the budget has.
 pub(crate) fn evict(
     active: &LayerTree,
     main: &LayerTree,
@@ -57,12 +57,10 @@ pub(crate) fn evict(
     ensures kept { AreKeptFor active.now kept.new.items }
     ensures current { AreCurrent main.now kept.new.items }
 {
-    drop_older(
-        active,
-        main,
-        kept,
-        budget,
-        draw.saturating_sub(RECENT_DRAWS),
-    );
-    drop_older(active, main, kept, budget, draw);
+    for age in AGES {
+        if unused_bytes(kept.as_slice(), draw) <= budget {
+            return;
+        }
+        drop_unused(active, main, kept, draw.saturating_sub(age));
+    }
 }

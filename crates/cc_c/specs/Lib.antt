@@ -1,7 +1,10 @@
 pub mod Answers
+pub mod BadNumbers
+pub mod Calls
 pub mod Commands
 pub mod Copies
 pub mod Damages
 pub mod Edits
 pub mod Faults
+pub mod Handles
 pub mod Meanings

@@ -23,6 +23,14 @@ impl<T, A: Allocator> Model for BoxParts<T, A> {
 }
 
 impl<T: Drop, A: Allocator> BoxParts<T, A> {
+    /// The parts of a box, with the same value.
+    pub fn of(owner: Box<T, A>) -> BoxParts<T, A>
+        ensures { result.value ≡ owner.value }
+    {
+        let (at, alloc) = Box::into_raw_with_allocator(owner);
+        BoxParts { at, alloc }
+    }
+
     /// The box, with the same value.
     pub fn into_box(self) -> Box<T, A>
         ensures { result.value ≡ self.value }

@@ -104,7 +104,8 @@ pub fn copied(
 ) -> bool
     ensures done { result ≡ true → HoldsRows frame.now bgra top bottom stride to.new }
     ensures between { result ≡ true → KeepsBetween (4 * frame.now.w) top bottom stride to.old to.new }
-    ensures room { result ≡ false → HasRoom frame.now top bottom stride (length to.old) → ⊥ }
+    ensures room { result ≡ true → HasRoom frame.now top bottom stride (length to.old) }
+    ensures no_room { result ≡ false → HasRoom frame.now top bottom stride (length to.old) → ⊥ }
     ensures short { result ≡ false → to.new ≡ to.old }
 {
     let width = 4 * frame.w() as usize;

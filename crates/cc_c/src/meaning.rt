@@ -4,6 +4,7 @@ ghost use Rattle.std.specs.Prelude.{◌≡◌, IfOk};
 ghost use Rattle.cc_c.specs.Commands as spec;
 ghost use Rattle.cc_c.specs.Meanings.{Built, Puts, put as put_command};
 
+use crate::bad_numbers::{BadNumbers, place_cause, plain_cause};
 use crate::commands::plain_command;
 use crate::failure::Failure;
 use crate::items::{ItemPlace, item_place};
@@ -52,14 +53,14 @@ fn put_bitmap(alloc: Global, op: u32, fields: &[i32], pixels: &[u8]) -> Result<C
     ensures { Puts op fields.now pixels.now result }
 {
     let Some(place) = item_place(fields) else {
-        return Err(Failure::Bad);
+        return Err(Failure::Bad(place_cause(fields)));
     };
     let Ok(bytes) = copied(alloc, pixels) else {
         return Err(Failure::Memory);
     };
     match Item::bitmap(place.rect, bytes) {
         Ok(item) => Ok(put(op, place, item)),
-        Err(_) => Err(Failure::Bad),
+        Err(bad) => Err(Failure::Bad(BadNumbers::Bitmap(bad.cause))),
     }
 }
 
@@ -78,6 +79,6 @@ pub fn command(
     }
     match plain_command(op, fields, rgba) {
         Some(command) => Ok(command),
-        None => Err(Failure::Bad),
+        None => Err(Failure::Bad(plain_cause(op, fields))),
     }
 }

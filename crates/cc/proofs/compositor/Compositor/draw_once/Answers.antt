@@ -5,7 +5,7 @@ use Rattle.cc.specs.inner.Flags.{TellsShown}
 use Rattle.page_layers.specs.Effects.{main_point}
 use Rattle.cc.proofs.Pages.{shown_now}
 use Rattle.cc.proofs.Pictures.{shown_page, outside_scene}
-use Rattle.cc.proofs.compositor.Compositor.draw.Goals as goal
+use Rattle.cc.proofs.compositor.Compositor.draw_once.Goals as goal
 
 pub paint-requires-clause-outside : goal.paint-requires-clause-outside
 paint-requires-clause-outside g c =
