@@ -6,7 +6,8 @@ usage: explain.py SCRIPT [LINE]
 SCRIPT is a file, or - for standard input. LINE is what the program wrote on standard error, as
 'cc: shape: list 2 index 5 field 8'; where it is given, it is held against what is found here, and lines that are not
 of a script (usage, faults of reading and writing, a bad recording, a wrong event) are explained as well. The status is
-0 where the script is accepted, else 1. For an accepted script it remarks what is legal and seldom meant.
+0 where the script is accepted, else 1. For an accepted script it tells what playing it costs at most, and remarks what
+is legal and seldom meant.
 
 Nothing is run. Where the rules stand: docs/FORMAT.md; for JSON the definition of the kit's serde_json
 (json_places.py), for the shape crates/script_json/specs and crates/script_fields/specs (script_shape.py), for refused
@@ -21,10 +22,13 @@ import json_places
 import page_model
 import recording
 import script_advice as advice
+import script_cost
 import script_remarks
 import script_shape
 
 MOST_BYTES = 16777216
+# How many steps of a path are told after those of a command: no script is deeper.
+MOST_STEPS = 6
 
 
 @dataclasses.dataclass
@@ -76,7 +80,7 @@ def place_told(path, script=None):
     op = op_at(script, path[:depth]) if depth and len(path) >= depth else None
     if op:
         told[-1] += f" ({op})"
-    told += [f'"{it}"' if isinstance(it, str) else f"element {it}" for it in rest]
+    told += [f'"{it}"' if isinstance(it, str) else f"element {it}" for it in rest[:MOST_STEPS]] + [".."] * (len(rest) > MOST_STEPS)
     return ", ".join(told) or "the top object"
 
 
@@ -192,7 +196,8 @@ def told(name, data, line):
         if line and line.startswith(begins):
             return [line, f"  {'do:':9} {does}"], False
     text, script, found = explanation(data)
-    lines = [*found.lines(name, text)] if found else [f"{name}: accepted: {script_remarks.size_told(script)}", *script_remarks.told(script)]
+    lines = [*found.lines(name, text)] if found else [
+        f"{name}: accepted: {script_remarks.size_told(script)}", script_cost.told(script), *script_remarks.told(script)]
     if line and line != (found.line if found else ""):
         lines.append(f"  The line that was given is another one: {line}. Is it of this script, as it stands now?")
     return lines, not found

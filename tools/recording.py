@@ -68,10 +68,14 @@ class Trouble(Exception):
     """What stands in the way, in one line."""
 
 
+def are_sides(values):
+    """Whether values can be the sides of a picture. One below 0 would lead back to what was read before."""
+    return all(type(side) is int and 0 < side <= 2048 for side in values)
+
+
 def is_view(command):
-    """Whether a command sets the view to whole numbers."""
-    return isinstance(command, dict) and command.get("op") == "set_view" and all(
-        type(command.get(side)) is int for side in ("w", "h"))
+    """Whether a command sets the view to a size that a picture can have."""
+    return isinstance(command, dict) and command.get("op") == "set_view" and are_sides((command.get("w"), command.get("h")))
 
 
 class Recording:
@@ -156,8 +160,8 @@ def script_of(line):
     try:
         script = json.loads(line)
         again = json.dumps(script, sort_keys=True, separators=(",", ":")).encode()
-        is_script = isinstance(script["main"], list) and isinstance(script["inputs"], list) and all(
-            type(side) is int and 0 < side <= 2048 for side in script["viewport"]) and len(script["viewport"]) == 2
+        is_script = isinstance(script["main"], list) and isinstance(script["inputs"], list) and \
+            are_sides(script["viewport"]) and len(script["viewport"]) == 2
     except (ValueError, TypeError, KeyError, RecursionError):
         is_script, again = False, None
     if not is_script or bytes(line) != again:
@@ -165,19 +169,18 @@ def script_of(line):
     return script
 
 
+def fit(numbers, low, high):
+    """Whether each of some numbers is from low to below high. Python refuses to read thousands of digits."""
+    return all(len(it) <= 20 and low <= int(it) < high for it in numbers)
+
+
 def are_in_range(line):
-    """Whether each number of a line fits its field: 64 bits with a sign in moves, 32 in a scroll and in what a wheel
-    leaves, else 32 bits without a sign."""
-    word, *fields = line.split(" ")
-    for at, field in enumerate(fields):
-        if ":" in field:
-            scroller, amounts = field.split(":")
-            if int(scroller) >= 2 ** 32 or any(not -2 ** 63 <= int(it) < 2 ** 63 for it in amounts.split(",")):
-                return False
-        elif "," in field:
-            if any(not -2 ** 31 <= int(it) < 2 ** 31 for it in field.split(",")):
-                return False
-        elif field != "-" and any(int(it) >= 2 ** 32 for it in field.split("/")):
+    """Whether each number of a line fits its field: 64 bits with a sign in moves, 32 in other amounts, else 32 without."""
+    for field in line.split(" ")[1:]:
+        scroller, _, amounts = field.rpartition(":")
+        most = 2 ** (63 if scroller else 31)
+        numbers = [scroller] * bool(scroller) if "," in field else field.replace("-", "0").split("/")
+        if not fit(numbers, 0, 2 ** 32) or "," in field and not fit(amounts.split(","), -most, most):
             return False
     return True
 

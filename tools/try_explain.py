@@ -6,11 +6,13 @@ usage: tools/try_explain.py [PROGRAM] [--alone] [--scripts FOLDER] [--store]
 Each wrong input below must be explained by the line that PROGRAM (crates/cc_player/out/cc_player, which the gate
 builds) writes for it, and by what docs/MESSAGES.md says to do. Changes of a recording must be judged by the event that
 `check` names, pictures must be what painting.py paints, and examples/blog.json what page.py makes of
-examples/blog.page; the three frames of FORMAT must give the events that it tells. --alone tries what needs no program.
+examples/blog.page; the three frames of FORMAT must give the events that it tells; and no run may cost more than is
+told of its script, which is tried with 200 that the program makes. --alone tries what needs no program.
 --scripts also holds every file of a folder, as a fuzzer leaves them, against the program's line. --store writes the
 table of MESSAGES anew, to be read before it is committed.
 """
 import argparse
+import dataclasses
 import json
 import pathlib
 import re
@@ -24,6 +26,7 @@ import judge
 import page
 import painting
 import recording
+import script_cost
 import script_wheels
 from built import PROVED
 from tally import Tally
@@ -132,11 +135,12 @@ def try_wrong_inputs(program, is_stored):
 def try_accepted():
     """An accepted script, and the remarks."""
     lines, is_fine = explain.told("page.json", BASE.encode(), "")
-    check("an accepted script", is_fine and len(lines) == 1, lines)
+    check("an accepted script", is_fine and len(lines) == 2, lines)
+    check("what it costs", lines[1] == "  cost:     at most 20 events, 1 draw, 16 pixels (by step, film, shot or serve)", lines)
     script = json.loads(BASE)
     script["main"] += [[], []]
     lines, is_fine = explain.told("page.json", json.dumps(script).encode(), "")
-    check("a main frame that no picture shows", is_fine and "main frame 2 is played after the last input" in lines[1], lines)
+    check("a main frame that no picture shows", is_fine and "main frame 2 is played after the last input" in lines[2], lines)
     lines, _ = explain.told("page.json", BASE.encode(), "cc: not JSON")
     check("a line of another script", "another one" in lines[-1], lines)
     found = explain.explanation(b" " * 16777217)[2]
@@ -175,13 +179,14 @@ def try_scrolls():
         script["main"][0] += commands
         script["inputs"] = [{"op": "await", "frame": 0}, *inputs, {"op": "draw"}]
         lines, is_fine = explain.told("page.json", json.dumps(script).encode(), "")
-        check(what, is_fine and len(lines) == (2 if wanted else 1) and wanted in lines[-1], lines)
+        check(what, is_fine and len(lines) == (3 if wanted else 2) and wanted in lines[-1], lines)
         script["inputs"][0] = {"op": "settle"}
         lines, _ = explain.told("page.json", json.dumps(script).encode(), "")
         check(f"{what}: nothing is said of a page that may not be there yet", not any("nothing:" in it for it in lines), lines)
     script = {**json.loads(BASE), "inputs": []}
     lines, is_fine = explain.told("page.json", json.dumps(script).encode(), "")
-    check("a script for shot", is_fine and len(lines) == 2 and "`shot` makes the picture" in lines[1] and "no picture shows it" not in lines[1], lines)
+    check("a script for shot", is_fine and len(lines) == 3 and "`shot` makes the picture" in lines[2] and "no picture shows it" not in lines[2], lines)
+    check("what it costs by shot", "1 draw, 16 pixels (by shot; without inputs the others draw nothing)" in lines[1], lines)
 
 
 # Recordings
@@ -253,6 +258,31 @@ def try_played(program, paths):
     check("wheels and scrolls are followed", followed > 50, followed)
 
 
+# What a script costs
+
+def costs(program, text):
+    """What a script may cost, and what playing it does: events, draws and pixels."""
+    played = subprocess.run([program, "step", "1"], input=text, capture_output=True, timeout=60).stdout
+    events = [*recording.Recording(played).events()]
+    images = [event.image for event in events if event.image]
+    most = script_cost.cost_of(json.loads(text))
+    return dataclasses.astuple(most), (len(events), len(images), sum(it.width * it.height for it in images))
+
+
+def try_costs(program):
+    """No made script costs more than is told, and the examples that are drawn once cost what is told to the last event."""
+    above = 0
+    for number in range(200):
+        text = subprocess.run([program, "gen", str(number)], capture_output=True, timeout=60).stdout
+        most, run = costs(program, text)
+        check(f"cost: gen {number}", all(a >= b for a, b in zip(most, run)), f"at most {most}, and the run {run}")
+        above += most[0] > run[0]
+    check("cost: the made scripts leave something to be told", above > 100, above)
+    for name in ("groups", "icons", "page", "view"):
+        most, run = costs(program, (ROOT / "examples" / f"{name}.json").read_bytes())
+        check(f"cost: {name}.json", most == run, f"told {most}, and the run {run}")
+
+
 # page.py
 
 WRONG_PAGES = [
@@ -313,6 +343,7 @@ def main():
         with tempfile.TemporaryDirectory() as made:
             try_judge(program, pathlib.Path(made))
         try_frames(program)
+        try_costs(program)
         try_played(program, sorted([*(ROOT / "docs" / "tutorial").glob("*.json"), *(ROOT / "examples").glob("*.json")]))
         try_scripts(program, words.scripts)
     return TALLY.status()
