@@ -5,16 +5,18 @@ usage: tools/believed.py [--words] [--of CRATE/FILE:FUNCTION] [--word WORD | --t
 
 It begins with the names in the `ensures` clauses of the function (player_run/program.rt:run if none is named) and
 follows each to its definition, by the `ghost use` lines of the source and the `use` lines of the specs, and so on
-through the names in those definitions. The records of which the fields are the clauses of `run` are followed, but not
-counted: their lines are clauses. It prints each file of specs/ with the lines of it that count, and the whole
-in lines and in pages of 50 lines; with --words each word too. With --word step (play, gen, demo, film, shot, serve,
-frames, check) it leaves out the cases of the program's other words; --table writes a row for each of them.
+through the names in those definitions, into the crates of the kit too. The records of which the fields are the clauses
+of `run` are followed, but not counted: their lines are clauses. It prints each file of specs/ with the lines of it that
+count, and the whole in lines (comments, signatures and bodies apart) and in pages of 50 lines; then the same of the
+kit's crates; with --words each word too. With --word step (play, gen, demo, film, shot, serve, frames, check) it leaves
+out the cases of the program's other words; --table writes a row for each of them.
 
 With --write the parts of docs/DEFINITIONS.md between the marker comments are made anew from the comments of the
 definitions: those that the theorem rests on, and those that the public contracts of crates name beside them; and so
-are the numbers of lines in README.md. Without a flag nothing is written, and it fails if one of these is stale, if the
-hand-written part of the page has more than 300 lines, if a definition that the theorem rests on has no comment, nor any
-above it in its file, or if a name leads nowhere.
+are the numbers of lines there and in README.md. Without a flag nothing is written, and it fails if one of these is
+stale, if the hand-written part of the page has more than 300 lines, if a definition that the theorem rests on has no
+comment, nor any above it in its file, or if a name leads nowhere. Without a kit on the PATH its definitions are left
+out, and the table of them is taken as it stands.
 """
 import argparse
 import re
@@ -34,10 +36,6 @@ RUN = "player_run/program.rt:run"
 TOLD_LINES = re.compile(r"^(\| `step` \|.*)\n\|[-|]+\n(\|.*)$", re.M)
 
 
-def lines_of(items):
-    return sum(it.last - it.first for it in items)
-
-
 def world_of(word, text, names, short):
     """The definitions that these clauses rest on; for one word of the program where it is named."""
     world = World(word)
@@ -53,7 +51,7 @@ def worlds(text, names, short):
 def readme_made(text, of_words):
     """The text of README with the numbers of lines that its words rest on."""
     def row(found):
-        numbers = (f"{lines_of(of_words[it].found.values()):,}" for it in re.findall(r"\w+", found[1]))
+        numbers = (f"{of_words[it].count(of_words[it].found.values()).lines:,}" for it in re.findall(r"\w+", found[1]))
         return found[0].removesuffix(found[2]) + "| " + " | ".join(numbers) + " |"
     return TOLD_LINES.sub(row, text)
 
@@ -70,7 +68,7 @@ def untold(world):
 def stale_pages(of_words, write):
     """What is wrong with the pages that tell of these definitions; with `write` they are made anew first."""
     text, readme = DEFINITIONS.read_text(), README.read_text()
-    page, lacking = definitions_page.made(text, of_words, public_words(of_words["all"]))
+    page, lacking = definitions_page.made(text, of_words, public_words(of_words["all"]), PAGE)
     numbers = readme_made(readme, of_words)
     if write:
         DEFINITIONS.write_text(page)
@@ -86,12 +84,20 @@ def stale_pages(of_words, write):
 
 def print_table(text, names, short):
     """A row for each word of the program."""
-    print("| Word | Definitions | Files | Lines | Pages |\n|---|---|---|---|---|")
-    for word, world in worlds(text, names, short).items():
-        lines = lines_of(world.found.values())
-        name = word if word == "all" else f"`{word}`"
-        print(f"| {name} | {len(world.found)} | {len(world.by_file())} | {lines:,} | {-(-lines // PAGE)} |")
+    print(definitions_page.numbers_table(worlds(text, names, short), PAGE), end="")
     return 0
+
+
+def print_items(world, items, name, with_words):
+    """The lines of some definitions that stand together, and which these are."""
+    print(f"{world.count(items).lines:5}  {name}")
+    if with_words:
+        print("       " + ", ".join(sorted(it.name for it in items)))
+
+
+def told_count(count):
+    """A number of lines, and of which they are."""
+    return f"{count.lines} lines ({count.comments} of comments, {count.signatures} of signatures, {count.bodies} of bodies)"
 
 
 def main():
@@ -110,13 +116,14 @@ def main():
     world = world_of(words.word and words.word.capitalize(), text, names, short)
     by_file = world.by_file()
     for path, items in sorted(by_file.items()):
-        print(f"{lines_of(items):5}  {path}")
-        if words.words:
-            print("       " + ", ".join(sorted(it.name for it in items)))
-    whole = lines_of(world.found.values())
-    told = told_words(text, names)
+        print_items(world, items, path, words.words)
+    for kit_crate, items in sorted(world.by_kit_crate().items()):
+        print_items(world, items, f"the kit's {kit_crate}", words.words)
+    whole, told = world.count(world.found.values()), told_words(text, names)
     print(f"believed: {len(told)} words in the clauses of `{function}`, {len(world.found)} definitions in {len(by_file)} files, "
-          f"{whole} lines, {-(-whole // PAGE)} pages; beside them {len(world.types)} types of the sources")
+          f"{told_count(whole)}, {-(-whole.lines // PAGE)} pages; beside them {len(world.types)} types of the sources")
+    if world.kit:
+        print(f"believed: of the kit {len(world.kit)} definitions, {told_count(world.count(world.kit.values()))}")
     wrong = [f"a name that leads nowhere: {'.'.join(it)}" for it in sorted(world.lost)]
     if words.of == RUN:
         of_words = worlds(text, names, short)
