@@ -18,7 +18,7 @@ import sys
 
 ROOT = pathlib.Path(__file__).resolve().parent.parent
 PAGES = ["README.md", "CONTRIBUTING.md", "docs/DEFINITIONS.md", "docs/LAWS.md", "docs/DECISIONS.md", "docs/LOCK.md",
-         "docs/GATE.md", "docs/BELL.md", "crates/README.md", "crates/*/README.md"]
+         "docs/GATE.md", "docs/BELL.md", "docs/TRUST.md", "crates/README.md", "crates/*/README.md"]
 SOURCES = ["*.rt", "*.antt", "*.py", "*.html", "*Makefile", ".ci/run", "crates.txt", "docs/script.schema.json"]
 QUOTED, FENCE = re.compile(r"`([^`\n]+)`"), re.compile(r"^```.*?^```$", re.M | re.S)
 NAME, STEP = re.compile(r"(?:\w+(?:::|\.))*\w+"), re.compile(r"::|\.")

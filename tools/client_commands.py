@@ -14,15 +14,16 @@ NO_BREAK = "\N{NO-BREAK SPACE}"
 # The numbers for C of the commands that put a bitmap. Their other numbers put a rect of one colour.
 BITMAPS = {"insert_item": 20, "replace_item": 21}
 # The parameters of C for the forms that are no numbers of a command; a field of such a form is its last.
-PAINTS = {"colour": ["uint32_t rgba"], "pixels": ["const uint8_t *rgba"]}
+PAINTS = {"colour": ["uint32_t rgba"], "pixels": ["const uint8_t *rgba", "size_t bytes"]}
 # What the header says of a function besides.
 REMARKS = {
     "add_effect": "Its layers are drawn as a group, faded to `opacity` of 255.",
-    "add_scroller": "It scrolls to (max_x, max_y), and hands on to its parent what it cannot take.",
+    "add_scroller": "It scrolls to (max_x, max_y). What it cannot take of a cc_wheel goes to its parent.",
     "scroll_by": "It is a scroller of the main page; cc_scroll moves both pages at once.",
     "set_colour": "It shows only where a tile is missing, which no draw of this library has.",
     "insert_bitmap": "A bitmap of w by h pixels (1 to 256 each), which are copied: red, green, blue and alpha of each, "
-                     "row by row, and premultiplied. CC_BAD if a side or a pixel is none of these.",
+                     "row by row, and premultiplied. `bytes` is how many bytes they are, 4 * w * h. CC_BAD if a side, the "
+                     "count or a pixel is none of these.",
 }
 # What Python takes for the fields of a command that adds something, if they are not given.
 DEFAULTS = {"parent": 0, "transform": 0, "clip": 0, "effect": 0, "scroller": 0, "x": 0, "y": 0, "w": 1, "h": 1,
@@ -58,6 +59,17 @@ def remark(text, first="/* ", later=" * ", last=" */"):
     return first + ("\n" + later).join(lines) + last + "\n"
 
 
+def constant(name):
+    """A command's name among the constants of C."""
+    return "CC_" + name.upper()
+
+
+def constants_of_c(calls):
+    """The numbers of the commands, as an enumeration."""
+    return ("/* The numbers of the commands, for cc_edit. */\nenum {\n"
+            + ",\n".join(f"  {constant(name)} = {number}" for name, number, _, _ in calls) + "\n};\n")
+
+
 def of_c(call):
     name, number, text, fields = call
     numbers = []
@@ -65,12 +77,10 @@ def of_c(call):
         if form not in PAINTS:
             numbers += ["x", "y", "w", "h"] if form == "rect" else [field]
     paint = fields[-1][1]
-    parts = ["cc *page", *(f"int32_t {it}" for it in numbers), *PAINTS.get(paint, []), "cc_fault *fault"]
-    body = f"  const int32_t f[] = {{{', '.join(numbers)}}};\n"
-    if paint == "pixels":
-        body += f"  return cc_bitmap_(page, {number}, f, rgba, fault);\n"
-    else:
-        body += f"  return cc_edit(page, {number}, f, {len(numbers)}, {'rgba' if paint == 'colour' else '0'}, fault);\n"
+    parts = ["cc_compositor *page", *(f"int32_t {it}" for it in numbers), *PAINTS.get(paint, []), "cc_fault *fault"]
+    painted = {"colour": "rgba, NULL, 0", "pixels": "0, rgba, bytes"}.get(paint, "0, NULL, 0")
+    body = (f"  const int32_t f[] = {{{', '.join(numbers)}}};\n"
+            f"  return cc_edit(page, {constant(name)}, f, {len(numbers)}, {painted}, fault);\n")
     head = wrapped(f"static inline uint32_t cc_{name}(", parts, ") {")
     return remark(" ".join(filter(None, [text, REMARKS.get(name)]))) + head + "\n" + body + "}\n"
 
@@ -144,7 +154,7 @@ def texts_made(commands, second_version):
     """Each file that has a part made from the commands, of which these names are of version 2 alone, and its text."""
     calls = calls_of(commands)
     table = "| `op` | Fields |\n|---|---|\n" + "".join(row_of(it, it.name in second_version) for it in commands)
-    parts = [("docs/FORMAT.md", table), ("include/cc.h", "\n".join(map(of_c, calls))),
+    parts = [("docs/FORMAT.md", table), ("include/cc.h", "\n".join([constants_of_c(calls), *map(of_c, calls)])),
              ("clients/python/cc.py", "\n".join(map(of_python, calls))),
              ("clients/rust/src/lib.rs", "\n".join(map(of_rust, calls)))]
     return [(ROOT / name, between(ROOT / name, made)) for name, made in parts]

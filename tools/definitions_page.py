@@ -121,16 +121,40 @@ def files_table(words_of, types, crates):
     return "\n".join(rows) + "\n"
 
 
+def numbers_table(worlds, page):
+    """How much each word of the program rests on, in pages of so many lines."""
+    rows = ["| Word | Definitions | Files | Lines | of them comments | signatures | bodies | Pages |", "|---" * 8 + "|"]
+    for word, world in worlds.items():
+        count, name = world.count(world.found.values()), word if word == "all" else f"`{word}`"
+        numbers = len(world.found), len(world.by_file()), count.lines, *count, -(-count.lines // page)
+        rows.append(f"| {name} | " + " | ".join(f"{it:,}" for it in numbers) + " |")
+    return "\n".join(rows) + "\n"
+
+
+def kit_table(step, whole):
+    """The definitions of the kit that the theorem rests on, by file, and how many lines of each `step` rests on."""
+    rows = ["| Crate of the kit | File | Lines | for `step` | Definitions |", "|---" * 5 + "|"]
+    files = {}
+    for item in whole.kit.values():
+        files.setdefault((item.crate, item.module), []).append(item)
+    for (crate, file), items in sorted(files.items()):
+        of_step = step.count(it for it in items if it in step.kit.values())
+        rows.append(f"| `{crate}` | {file} | {whole.count(items).lines} | {of_step.lines} | {', '.join(sorted(it.name for it in items))} |")
+    of_all, of_step = (it.count(it.kit.values()).lines for it in (whole, step))
+    rows.append(f"| all | {len(files)} files | {of_all} | {of_step} | {len(whole.kit)} |")
+    return "\n".join(rows) + "\n"
+
+
 def by_hand(text):
     """How many lines of the page are not made."""
     return len(MARKED.sub("", text).splitlines())
 
 
-def made(text, worlds, public):
+def made(text, worlds, public, page):
     """The page with its marked parts made anew, and the parts that it lacks.
 
     `worlds` has for each word of the program, and last for all of them, the definitions that it rests on; `public` are
-    the definitions that public contracts name.
+    the definitions that public contracts name; `page` is how many lines are a page.
     """
     *every, whole = worlds.items()
     words_of = {}
@@ -140,9 +164,13 @@ def made(text, worlds, public):
     upwards, world = list(CrateList().uses), whole[1]
     names = [word for word, _ in every]
     parts = {
+        "numbers": lambda: numbers_table(worlds, page),
+        "kit": lambda: kit_table(worlds["step"], world),
         "files": lambda: files_table(words_of, world.types, upwards[::-1]),
         "theorem": lambda: told_crates(world, set(world.found), upwards[::-1], lambda *it: note_of(words_of[it], names)),
         "crates": lambda: told_crates(world, public - set(world.found), upwards, lambda *it: ""),
     }
     lacking = sorted(set(parts) - {it[2] for it in MARKED.finditer(text)})
+    if not world.kit:
+        del parts["kit"]
     return MARKED.sub(lambda it: it[1] + parts[it[2]]() + it[3] if it[2] in parts else it[0], text), lacking

@@ -1,7 +1,9 @@
-"""The definitions in specs/, and which of them a clause rests on."""
+"""The definitions in specs/, and which of them a clause rests on: those of this repository and those of the kit."""
 import collections
 import functools
+import pathlib
 import re
+import shutil
 import sys
 
 from crate_list import CRATES
@@ -12,19 +14,44 @@ WORDS = ("Step", "Play", "Gen", "Demo", "Film", "Shot", "Serve", "Frames", "Chec
 # than these.
 CLAUSES = ("player_run", "Ran")
 
-USE = re.compile(r"^(?:ghost )?(?:pub )?use Rattle\.(\w+)\.(\w+)\.([\w.]+?)(?:\.\{([^}]*)\}| as (\w+))?;?$")
-HEAD = re.compile(r"^(?:(?:abbrev|unfoldable|unfolding|irreducible|strict|pub|priv)\s+)*(?:(record|data)\s+)?(?:pub\s+)?([^\s:(){}]+)\s*(?=[:(\s{])")
+USE = re.compile(r"^(?:(?:ghost|pub|unfoldable) )*use Rattle\.(\w+)\.(\w+)\.([\w.]+?)(?:\.\{([^}]*)\}| as (\w+))?;?$")
+HEAD = re.compile(r"^(?:(?:abbrev|unfoldable|irreducible|strict|pub|priv)\s+)*(?:(record|data)\s+)?(?:pub\s+)?([^\s:(){}]+)\s*(?=[:(\s{])")
 TOKEN = re.compile(r"[^\s(),{};\[\]λ]+")
 
 Item = collections.namedtuple("Item", "crate module name first last text")
 
 
+class Count(collections.namedtuple("Count", "comments signatures bodies", defaults=(0, 0, 0))):
+    """How many lines of definitions are comments, signatures and bodies."""
+
+    @property
+    def lines(self):
+        """All of them."""
+        return sum(self)
+
+    def __add__(self, other):
+        return Count(*map(sum, zip(self, other)))
+
+
+def count_of(item, text):
+    """The lines of a definition with its comment, if this is what counts of its text.
+
+    A signature goes on to the first clause, which begins with the name once more, or to the first field or case.
+    """
+    head, *rest = text.split("\n")
+    above = item.last - item.first - item.text.count("\n") - 1
+    code = [line for line in rest if not line.lstrip().startswith("--")]
+    is_listed = re.match(r"(?:\w+ )*(?:record|data) ", head)
+    signature = 0 if is_listed else next((at for at, line in enumerate(code) if line[:1] != " "), len(code))
+    return Count(above + len(rest) - len(code), 1 + signature, len(code) - signature)
+
+
 class Module:
     """A file of specs/: its definitions by name, what it brings in, and the short names of whole modules."""
 
-    def __init__(self, crate, path):
+    def __init__(self, crate, path, folder):
         self.crate, self.path, self.items, self.names, self.short, self.cases = crate, path, {}, {}, {}, {}
-        self.name = ".".join(path.relative_to(CRATES / crate / "specs").with_suffix("").parts)
+        self.name = ".".join(path.relative_to(folder).with_suffix("").parts)
         lines = path.read_text().split("\n")
         self.read_uses(lines)
         self.read_items(list(outdented(lines)))
@@ -75,7 +102,7 @@ def outdented(lines):
     """The lines, where those of a module inside a file, or of definitions that need each other, stand as far left as the others."""
     is_inside = False
     for line in lines:
-        if line.startswith("module ") or line == "abbrev mutual":
+        if line.startswith("module ") or line in ("mutual", "abbrev mutual"):
             is_inside = True
         elif line and line[0] not in " -":
             is_inside = False
@@ -95,7 +122,7 @@ def note_use(found, names, short):
 
 def name_of(line):
     """The name that a line begins to define or goes on to define, if it does: a definition's lines begin with it."""
-    if not line or line[0] in " -})" or line.startswith(("use ", "mod ", "pub mod ", "module ", "where", "infix", "syntax", "ruleset", "abbrev mutual")):
+    if not line or line[0] in " -})" or line.startswith(("use ", "mod ", "pub mod ", "module ", "where", "infix", "syntax", "ruleset", "mutual", "abbrev mutual", "unfolding ")):
         return None
     found = HEAD.match(line)
     return found.group(2) if found else None
@@ -111,8 +138,38 @@ def variants_of(name):
 def all_modules():
     """The files of specs/ by crate and name."""
     paths = (it for it in sorted(CRATES.glob("*/specs/**/*.antt")) if it.name != "Lib.antt")
-    read = (Module(it.relative_to(CRATES).parts[0], it) for it in paths)
+    crates = ((it.relative_to(CRATES).parts[0], it) for it in paths)
+    read = (Module(crate, it, CRATES / crate / "specs") for crate, it in crates)
     return {(module.crate, module.name): module for module in read}
+
+
+@functools.cache
+def kit_crates():
+    """The folder of the kit's crates, if there is a kit."""
+    rt = shutil.which("rt")
+    return rt and pathlib.Path(rt).resolve().parent.parent / "rattle"
+
+
+@functools.cache
+def kit_module(crate, path):
+    """The file of specs/ of one of the kit's crates, or the one that its Lib.antt passes on under this name."""
+    folder = kit_crates() / crate / "specs"
+    file = folder.joinpath(*path.split(".")).with_suffix(".antt")
+    if file.is_file():
+        return Module(crate, file, folder)
+    first, _, rest = path.partition(".")
+    lib = (folder / "Lib.antt").read_text() if (folder / "Lib.antt").is_file() else ""
+    passed = re.search(rf"^pub use Rattle\.(\w+)\.specs\.((?:\w+\.)*{re.escape(first)})$", lib, re.M)
+    return passed and kit_module(passed[1], f"{passed[2]}.{rest}" if rest else passed[2])
+
+
+def kit_item(place, name):
+    """The definition of a name of the kit. None if it is a type, or one of the words of the logic itself."""
+    crate, part, path = place
+    module = kit_module(crate, path) if part == "specs" and not path.startswith("declared") else None
+    if module is None or module.holds(name) or name not in module.names:
+        return module and module.holds(name)
+    return kit_item(*module.names[name])
 
 
 class World:
@@ -120,13 +177,13 @@ class World:
 
     def __init__(self, word=None):
         self.word, self.modules = word, all_modules()
-        self.found, self.lost, self.kit, self.types = {}, set(), set(), set()
+        self.found, self.kit, self.counts, self.lost, self.types = {}, {}, {}, set(), set()
 
     def lead(self, place, name):
         """Goes to the definition of a name that was brought in from a place."""
         crate, part, path = place
         if not (CRATES / crate).is_dir():
-            self.kit.add((crate, name))
+            self.follow(kit_crates() and kit_item(place, name))
         elif part != "specs" or path.startswith("declared"):
             self.types.add((crate, path.removeprefix("declared.").split(".TheVariants")[0]))
         elif (crate, path) in self.modules and self.modules[crate, path].holds(name):
@@ -170,18 +227,28 @@ class World:
         return found
 
     def follow(self, item):
-        """Takes in a definition and those that it names."""
-        if (item.crate, item.module, item.name) in self.found:
+        """Takes in a definition, if there is one, and those that it names."""
+        place = item and (item.crate, item.module, item.name)
+        if item is None or place in self.counts:
             return
-        self.found[item.crate, item.module, item.name] = item
-        module = self.modules[item.crate, item.module]
+        own = self.modules.get(place[:2])
+        module = own or kit_module(*place[:2])
         text = self.cases_of(item, module)
-        left_out = item.text.count("\n") - text.count("\n")
-        if (item.crate, item.module) == CLAUSES and item.text.startswith("pub record "):
-            left_out = item.last - item.first
-        self.found[item.crate, item.module, item.name] = item._replace(last=item.last - left_out)
-        text = re.sub(r"--.*", "", text)
-        self.names_in(text, module.names, module.short, module.items)
+        is_clauses = place[:2] == CLAUSES and item.text.startswith("pub record ")
+        self.counts[place] = Count() if is_clauses else count_of(item, text)
+        (self.found if own else self.kit)[place] = item
+        self.names_in(re.sub(r"--.*", "", text), module.names, module.short, module.items)
+
+    def count(self, items):
+        """The lines of some of these definitions."""
+        return sum((self.counts[it.crate, it.module, it.name] for it in items), Count())
+
+    def by_kit_crate(self):
+        """The definitions of the kit that were found, by crate."""
+        found = collections.defaultdict(list)
+        for item in self.kit.values():
+            found[item.crate].append(item)
+        return found
 
 
 def clauses_of(path, function):

@@ -41,7 +41,7 @@ static void stop(const char *what, long n) {
 static uint8_t icon[16 * 16 * 4];
 
 /* One step of the page; the same whenever it is played. */
-static uint32_t play(cc *page, int step) {
+static uint32_t play(cc_compositor *page, int step) {
   uint32_t layer;
   const int turn = step - 8;
   switch (step) {
@@ -52,7 +52,7 @@ static uint32_t play(cc *page, int step) {
     case 4: return cc_add_layer(page, 1, 0, 1, 1, 0, 120, 300, 0, NULL);
     case 5: return cc_add_layer(page, 2, 1, 1, 0, 1, 60, 60, 0, NULL);
     case 6: return cc_insert_rect(page, 2, 0, 5, 5, 40, 40, 0x40800080, NULL);
-    case 7: return cc_insert_bitmap(page, 2, 1, 20, 20, 16, 16, icon, NULL);
+    case 7: return cc_insert_bitmap(page, 2, 1, 20, 20, 16, 16, icon, sizeof icon, NULL);
     default: break;
   }
   if (turn < 20)
@@ -69,20 +69,21 @@ static uint32_t play(cc *page, int step) {
 }
 
 /* What can be seen of a compositor without memory. */
-static void look(cc *page, int32_t seen[3]) {
-  cc_offset(page, 1, &seen[0], &seen[1]);
-  seen[2] = cc_is_changed(page);
+static void look(cc_compositor *page, int32_t seen[3]) {
+  uint32_t changed;
+  if (cc_offset(page, 1, &seen[0], &seen[1]) || cc_is_changed(page, &changed)) exit(1);
+  seen[2] = (int32_t)changed;
 }
 
 /* The picture of the page, played with the Nth allocation refused. */
 static void run(long n, int rest, uint8_t *pixels) {
-  cc *page = NULL;
+  cc_compositor made = CC_EMPTY, *page = &made;
   left = n;
   on_from = rest;
-  uint32_t status = cc_new(WIDTH, HEIGHT, 16, 0xffffffff, 4096, &page);
+  uint32_t status = cc_new(page, WIDTH, HEIGHT, 16, 0xffffffff, 4096);
   if (status == CC_MEMORY) {
     left = -1;
-    status = cc_new(WIDTH, HEIGHT, 16, 0xffffffff, 4096, &page);
+    status = cc_new(page, WIDTH, HEIGHT, 16, 0xffffffff, 4096);
   }
   if (status != CC_DONE) stop("cc_new", n);
   for (int step = 0; step < STEPS; step++) {
