@@ -109,9 +109,9 @@ impl Case {
         }
     }
 
-    /// Whether the words ask for a session.
+    /// Whether the words ask for a session, and the call holds one.
     pub fn is_served(&self) -> bool {
-        self.call == Call::Run
+        self.call != Call::Declined
             && self
                 .words
                 .first()
