@@ -28,6 +28,7 @@ sys.dont_write_bytecode = True
 from built import PROVED
 from lib import COMPILERS
 from png_chunks import picture_of
+from script_cost import shot_of
 
 ROOT = pathlib.Path(__file__).resolve().parent.parent
 EXAMPLES, CLIENTS = ROOT / "examples" / "embed", ROOT / "clients"
@@ -318,10 +319,9 @@ class Page:
 
     def script(self):
         commands = self.active or [{"op": "add_effect", "id": 60000, "parent": 0, "opacity": 255}]
-        inputs = [{"op": "await", "frame": 0}, {"op": "settle"}, {"op": "draw"}]
-        return json.dumps({"version": 2, "viewport": self.view[:2], "tile": self.view[2], "background": "204060",
-                           "budget": 4096, "raster_per_frame": 4096, "soon": 0, "eventually": 0, "priority": "same",
-                           "main": [commands], "inputs": inputs}).encode()
+        page = {"version": 2, "viewport": self.view[:2], "tile": self.view[2], "background": "204060",
+                "budget": 4096, "raster_per_frame": 4096, "soon": 0, "eventually": 0, "priority": "same", "main": [commands]}
+        return json.dumps(shot_of(page)).encode()
 
     def picture(self):
         """Draws, and looks that the frame stays outside of the rows and of the rects that are told."""

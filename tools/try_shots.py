@@ -15,6 +15,7 @@ import sys
 sys.dont_write_bytecode = True
 from built import PROVED
 from png_chunks import chunks_of, picture_of
+from script_cost import shot_of
 
 ROOT = pathlib.Path(__file__).resolve().parent.parent
 NO_PICTURE = (12, b"", b"cc: no picture\n")
@@ -61,9 +62,7 @@ def main():
     wrong = []
     for name, script in scripts.items():
         page = json.loads(script)
-        last = len(page["main"]) - 1
-        asks = [{"op": "await", "frame": last}] * (last >= 0) + [{"op": "settle"}, {"op": "draw"}]
-        bare, asked = (json.dumps(page | {"inputs": inputs}).encode() for inputs in ([], asks))
+        bare, asked = (json.dumps(played).encode() for played in (page | {"inputs": []}, shot_of(page)))
         wrong += [name] * (not is_right(program, script, script if page["inputs"] else asked))
         wrong += [f"{name} without inputs"] * (not is_right(program, bare, asked))
     print(f"try_shots: {2 * len(scripts)} pictures, {len(wrong)} wrong", *wrong, sep="\n  " if wrong else " ")

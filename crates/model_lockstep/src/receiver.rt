@@ -44,6 +44,6 @@ pub trait Receiver<C: Compositor, O> {
     fn refused(error: AllocError) -> Self::Fault
         ensures { (start : Self.Start) (s : ScriptModel) (past : List Entry) (x : Self) (out : O) → has start s past x out → stopped start s past result x out };
 
-    /// Whether it is to be given no more for now.
+    /// Whether it can take nothing more until it has let go of some of what it took.
     fn is_full(&self) -> bool;
 }

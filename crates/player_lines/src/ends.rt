@@ -28,13 +28,6 @@ pub struct Ends<S, K> {
     passed: GhostList<Passed>,
 }
 
-// These bytes, for clauses alone.
-fn told(bytes: &[u8]) -> GhostList<u8>
-    ensures { result.items ≡ bytes.now }
-{
-    GhostList::new().with_all(bytes)
-}
-
 // Puts a piece.
 fn put_piece<K: Sink>(out: &mut K, piece: &[u8]) -> Result<(), Failed>
     ensures bytes { Gains (K.held out.old) (K.held out.new) piece.now result }
@@ -135,7 +128,7 @@ impl<S: Source, K: Sink> Client for Ends<S, K> {
     {
         match self.source.read(buf) {
             Ok(count) => {
-                let passed = Passed::Got(told(&buf[..count]));
+                let passed = Passed::Got(GhostList::of(&buf[..count]));
                 self.passed = self.passed.and(&passed);
                 self.failed = false;
                 Ok(count)
@@ -158,12 +151,12 @@ impl<S: Source, K: Sink> Client for Ends<S, K> {
     {
         match put_frame(&mut self.out, piece) {
             Ok(()) => {
-                let passed = Passed::Data(told(piece));
+                let passed = Passed::Data(GhostList::of(piece));
                 self.passed = self.passed.and(&passed);
                 Ok(())
             }
             Err(failed) => {
-                let passed = Passed::TornData(told(piece), 0);
+                let passed = Passed::TornData(GhostList::of(piece), 0);
                 self.passed = self.passed.and(&passed);
                 self.put_faults = self.put_faults.saturating_add(1);
                 Err(failed)
@@ -182,12 +175,12 @@ impl<S: Source, K: Sink> Client for Ends<S, K> {
     {
         match put_piece(&mut self.out, text) {
             Ok(()) => {
-                let passed = Passed::Text(told(text));
+                let passed = Passed::Text(GhostList::of(text));
                 self.passed = self.passed.and(&passed);
                 Ok(())
             }
             Err(failed) => {
-                let passed = Passed::TornText(told(text), 0);
+                let passed = Passed::TornText(GhostList::of(text), 0);
                 self.passed = self.passed.and(&passed);
                 self.put_faults = self.put_faults.saturating_add(1);
                 Err(failed)

@@ -27,13 +27,6 @@ pub struct Talk {
     ghost tells: { IsTold (acts passed.items) (drop source.given source.bytes.items) source.bytes.items out.bytes.items },
 }
 
-// The bytes, for clauses alone.
-fn told(bytes: &[u8]) -> GhostList<u8>
-    ensures { result.items ≡ bytes.now }
-{
-    GhostList::new().with_all(bytes)
-}
-
 // How many bytes a sink took since it held the given number.
 fn taken_since(out: &MemSink, before: usize) -> usize
     ensures { result ≡ vec_len out.now.bytes - before }
@@ -101,7 +94,7 @@ impl Client for Talk {
     fn read(&mut self, buf: &mut [u8]) -> Result<usize, Failed> {
         match self.source.read(buf) {
             Ok(count) => {
-                let passed = Passed::Got(told(&buf[..count]));
+                let passed = Passed::Got(GhostList::of(&buf[..count]));
                 self.passed = self.passed.and(&passed);
                 self.failed = false;
                 Ok(count)
@@ -117,12 +110,12 @@ impl Client for Talk {
         let before = self.out.bytes().len();
         match put_frame(&mut self.out, piece) {
             Ok(()) => {
-                let passed = Passed::Data(told(piece));
+                let passed = Passed::Data(GhostList::of(piece));
                 self.passed = self.passed.and(&passed);
                 Ok(())
             }
             Err(failed) => {
-                let passed = Passed::TornData(told(piece), taken_since(&self.out, before));
+                let passed = Passed::TornData(GhostList::of(piece), taken_since(&self.out, before));
                 self.passed = self.passed.and(&passed);
                 self.put_faults = self.put_faults.saturating_add(1);
                 Err(failed)
@@ -134,12 +127,12 @@ impl Client for Talk {
         let before = self.out.bytes().len();
         match self.out.put(text) {
             Ok(()) => {
-                let passed = Passed::Text(told(text));
+                let passed = Passed::Text(GhostList::of(text));
                 self.passed = self.passed.and(&passed);
                 Ok(())
             }
             Err(_) => {
-                let passed = Passed::TornText(told(text), taken_since(&self.out, before));
+                let passed = Passed::TornText(GhostList::of(text), taken_since(&self.out, before));
                 self.passed = self.passed.and(&passed);
                 self.put_faults = self.put_faults.saturating_add(1);
                 Err(Failed)

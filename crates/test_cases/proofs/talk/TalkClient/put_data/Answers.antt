@@ -7,16 +7,16 @@ use Rattle.test_cases.proofs.talk.TalkClient.put_data.Goals as goal
 
 pub invariant_of-self : goal.invariant_of-self
 invariant_of-self c = record {
-  tells = data_told _ _ c.args.piece.now _ _ _ _ (one_more _ _ _ _ c.and-self.ensures (ap (λ (b : List ℕ). Data b) c.told.ensures)) c.in-Ok.ensures.bytes c.args.self.now.tells;
+  tells = data_told _ _ c.args.piece.now _ _ _ _ (one_more _ _ _ _ c.and-self.ensures (ap (λ (b : List ℕ). Data b) c.of.ensures)) c.in-Ok.ensures.bytes c.args.self.now.tells;
 }
 
 pub invariant_of-self-in-Err : goal.invariant_of-self-in-Err
 invariant_of-self-in-Err c = record {
-  tells = torn_data_told _ _ _ c.args.piece.now _ _ _ _ (one_more _ _ _ _ c.and-self-in-Err.ensures (ap (λ (b : List ℕ). TornData b c.taken_since.result) c.told-in-Err.ensures)) (search rules) c.in-Err.ensures.bytes c.args.self.now.tells;
+  tells = torn_data_told _ _ _ c.args.piece.now _ _ _ _ (one_more _ _ _ _ c.and-self-in-Err.ensures (ap (λ (b : List ℕ). TornData b c.taken_since.result) c.of-in-Err.ensures)) (search rules) c.in-Err.ensures.bytes c.args.self.now.tells;
 }
 
 pub returns-in-Ok-clause-adds : goal.returns-in-Ok-clause-adds
-returns-in-Ok-clause-adds c = one_more _ _ _ _ c.and-self.ensures (ap (λ (b : List ℕ). Data b) c.told.ensures)
+returns-in-Ok-clause-adds c = one_more _ _ _ _ c.and-self.ensures (ap (λ (b : List ℕ). Data b) c.of.ensures)
 
 pub returns-in-Err-clause-adds : goal.returns-in-Err-clause-adds
-returns-in-Err-clause-adds c = (_, one_more _ _ _ _ c.and-self-in-Err.ensures (ap (λ (b : List ℕ). TornData b c.taken_since.result) c.told-in-Err.ensures))
+returns-in-Err-clause-adds c = (_, one_more _ _ _ _ c.and-self-in-Err.ensures (ap (λ (b : List ℕ). TornData b c.taken_since.result) c.of-in-Err.ensures))
