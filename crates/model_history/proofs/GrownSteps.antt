@@ -25,13 +25,13 @@ or_before [] ys i d l = absurd (omega (arith, l))
 or_before (x ∷ xs) ys zero d l = refl
 or_before (x ∷ xs) ys (suc i) d l = or_before xs ys i d (omega (arith, l))
 
-one_longer : {A : Type 0} (xs : List A) (x : A) → length (xs ++ x ∷ []) ≡ suc (length xs)
+pub one_longer : {A : Type 0} (xs : List A) (x : A) → length (xs ++ x ∷ []) ≡ suc (length xs)
 one_longer [] x = refl
 one_longer (y ∷ xs) x = ap suc (one_longer xs x)
 
 -- ---- main frames of which the last has other commands
 
-as_many : (cs : List Command) (fs : List (List Command)) → length (with_last cs fs) ≡ length fs
+pub as_many : (cs : List Command) (fs : List (List Command)) → length (with_last cs fs) ≡ length fs
 as_many cs [] = refl
 as_many cs (f ∷ []) = refl
 as_many cs (f ∷ g ∷ fs) = ap suc (as_many cs (g ∷ fs))

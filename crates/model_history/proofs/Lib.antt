@@ -28,6 +28,7 @@ pub mod Rests
 pub mod DueRows
 pub mod LockstepWords
 pub mod BarePages
+pub mod Rooms
 pub mod FindKeys
 pub mod ScriptPages
 pub mod LayersStay

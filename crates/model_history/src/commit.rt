@@ -1,6 +1,6 @@
 //! Commits: what a main frame that changed something hands to the compositor side.
 
-ghost use Rattle.std.specs.Prelude.{◌≡◌, IfOk};
+ghost use Rattle.std.specs.Prelude.{◌≡◌};
 ghost use Rattle.model_history.specs.Commits.{IsCommit};
 ghost use Rattle.model_history.specs.Accepted.{IsAccepted};
 
@@ -9,7 +9,6 @@ use crate::script::Script;
 use ghost_list::GhostList;
 use page_layers::LayerTree;
 use region::Changes;
-use std::alloc::AllocError;
 use std::marker::Model;
 use std::sync::Arc;
 
@@ -71,13 +70,6 @@ impl Commit {
         ensures { result.now ≡ self.now.tree }
     {
         &self.tree
-    }
-
-    /// The page after the frame, shared once more. An error means out of memory.
-    pub fn shared_tree(&self) -> Result<Arc<LayerTree>, AllocError>
-        ensures { IfOk result (λ tree. tree.value ≡ self.now.tree) }
-    {
-        Arc::try_clone(&self.tree)
     }
 
     /// What the frame changed.

@@ -1,11 +1,16 @@
 //! Laws of scripts that are told while they are played, as contracts of functions that do nothing.
 
-ghost use Rattle.std.specs.Prelude.{◌≡◌, ℕ, ◌<◌, true, false, List, [], ◌∷◌, ◌++◌, length};
+ghost use Rattle.std.specs.Prelude.{◌≡◌, ℕ, suc, ◌<◌, nat_lt, true, false, List, [], ◌∷◌, ◌++◌, length};
+ghost use Rattle.std.specs.List.{list_all};
 ghost use Rattle.model_states.specs.Kinds.{is_sent};
 ghost use Rattle.page_layers.specs.declared.command.Command.{Command};
+ghost use Rattle.page_layers.specs.declared.moves.Move.{Move};
 ghost use Rattle.model_history.specs.declared.input.Input.{Input};
 ghost use Rattle.model_history.specs.declared.history.Entry.{Entry};
 ghost use Rattle.model_history.specs.Scripts.{ScriptModel};
+ghost use Rattle.model_history.specs.Accepted.{IsAccepted, TakesAll};
+ghost use Rattle.model_history.specs.Frames.{page_before};
+ghost use Rattle.model_history.specs.Ranges.{command_in_range, is_in_ranges, are_short};
 ghost use Rattle.model_history.specs.EventFields.{answers};
 ghost use Rattle.model_history.specs.Scans.{counted};
 ghost use Rattle.model_history.specs.Legal.{sched, Legal};
@@ -41,4 +46,13 @@ pub fn commands_may_follow_their_frame()
     ensures reads { (s : ScriptModel) (workers : ℕ) (h : List Entry) (cs : List Command) → Legal s workers h → counted answers h < length s.main → ReadsAlike s h (with_last cs s.main) s.inputs }
     ensures legal { (s : ScriptModel) (workers : ℕ) (h : List Entry) (cs : List Command) → Legal s workers h → has_looked_ahead h ≡ false → counted answers h < length s.main → Legal (with_commands s cs) workers h }
     ensures tells { (s : ScriptModel) (workers : ℕ) (h : List Entry) (cs : List Command) → Legal s workers h → has_looked_ahead h ≡ false → counted answers h < length s.main → TellsAlike s (with_commands s cs) h }
+{}
+
+/// An accepted script that grows within the format's ranges is accepted: with one input more, with one main frame more,
+/// and with other commands of its last main frame that the page before this frame takes, whatever was pulled.
+pub fn grown_scripts_are_accepted()
+    ensures input { (s : ScriptModel) (x : Input) → IsAccepted s → is_in_ranges (with_input s x) ≡ true → IsAccepted (with_input s x) }
+    ensures main_frame { (s : ScriptModel) → IsAccepted s → is_in_ranges (with_main_frame s) ≡ true → IsAccepted (with_main_frame s) }
+    ensures commands { (s : ScriptModel) (pulls : ℕ → List Move) (k : ℕ) (cs : List Command) → IsAccepted s → suc k ≡ length s.main → list_all (command_in_range s.version) cs ≡ true → TakesAll (page_before s pulls k) cs → IsAccepted (with_commands s cs) }
+    ensures short { (s : ScriptModel) (cs : List Command) → are_short s.main ≡ true → nat_lt (length cs) 4294967296 ≡ true → are_short (with_commands s cs).main ≡ true }
 {}

@@ -10,6 +10,7 @@ mod applying;
 mod commit;
 mod event;
 mod frame;
+mod growing;
 mod history;
 mod input;
 mod laws_frames;
@@ -19,6 +20,7 @@ mod laws_pages;
 mod laws_scrolls;
 mod laws_sharing;
 mod laws_tiles;
+mod limits;
 mod moves;
 mod script;
 mod script_error;
@@ -35,7 +37,7 @@ pub use laws_frames::{
 };
 pub use laws_growth::{
     a_main_frame_may_follow, an_input_may_follow, commands_may_follow_their_frame,
-    what_was_legal_stays_legal,
+    grown_scripts_are_accepted, what_was_legal_stays_legal,
 };
 pub use laws_lockstep::lockstep_is_one;
 pub use laws_pages::{

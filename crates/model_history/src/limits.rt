@@ -1,0 +1,19 @@
+//! What a script may say at most, as its format has it.
+
+/// The most main frames.
+pub(crate) const MOST_FRAMES: usize = 4096;
+
+/// The most inputs.
+pub(crate) const MOST_INPUTS: usize = 65536;
+
+/// The most draws among the inputs.
+pub(crate) const MOST_DRAWS: u32 = 4096;
+
+/// The greatest id of a scroller.
+pub(crate) const MOST_ID: u32 = 65535;
+
+/// The furthest place of a wheel along an axis, in pixels.
+pub(crate) const MOST_PLACE: u32 = 2047;
+
+/// How far a scroll or a wheel goes at most along an axis, in pixels.
+pub(crate) const MOST_SCROLL: i32 = 1_048_576;
