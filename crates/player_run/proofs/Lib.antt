@@ -1,3 +1,4 @@
+pub mod Activated
 pub mod Promised
 pub mod Summed
 pub mod Outputs

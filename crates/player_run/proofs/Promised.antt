@@ -9,18 +9,17 @@ use Rattle.model_history.specs.Scripts.{ScriptModel}
 use Rattle.model_history.proofs.LockstepWords.{lockstep_legal, lockstep_ends}
 use Rattle.model_history.proofs.OneAnswer.{legal_beginning}
 use Rattle.model_history.proofs.Pins.{required_at_each, lacking_at_each}
-use Rattle.model_history.proofs.Sums.{offset_is}
 use Rattle.model_history.proofs.ValueReadings.{active_is_value, offset_in_range}
 use Rattle.script_json.proofs.CanonicalTexts.{recording_of}
 use Rattle.recording_check.proofs.WrittenRuns.{legal_with_more}
 use Rattle.player_lockstep.specs.Recordings.{IsLockstepRecording}
 use Rattle.player_run.specs.Promises.{StandsRight, IsSoundHistory, IsPromised}
 use Rattle.player_run.specs.Runs.{IsRunOf}
+use Rattle.player_run.proofs.Activated.{moved_at_each}
 
 -- after a legal past of an accepted script each scroller stands right
 stands_right : (s : ScriptModel) (workers : ℕ) (h : List Entry) (sc : ℕ) (ax : Axis) → IsAccepted s → Legal s workers h → StandsRight s h sc ax
 stands_right s workers h sc ax accepted legal = record {
-  sum = offset_is s h sc ax;
   stepwise = active_is_value s workers h sc ax legal;
   in_range = offset_in_range s workers h sc ax accepted legal;
 }
@@ -35,6 +34,7 @@ sound_of s workers history accepted legal = record {
   legal = legal;
   required = required_at_each s workers (reverse history) legal;
   missing = lacking_at_each s workers (reverse history) legal;
+  once = moved_at_each s workers (reverse history) legal;
   offsets = λ before after is sc ax. stands_right s workers (reverse before) sc ax accepted (legal_prefix s workers history before after legal is);
 }
 

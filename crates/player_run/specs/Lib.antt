@@ -1,3 +1,4 @@
+pub mod Scrolled
 pub mod Promises
 pub mod Shots
 pub mod Runs
