@@ -11,4 +11,5 @@ pub mod BeginsOfRuns
 pub mod EndsOfRuns
 pub mod PlayedRuns
 pub mod WrittenWholes
+pub mod OneOutput
 pub mod ServedLines
