@@ -1,12 +1,13 @@
 -- What passed with a client, as a past.
 use Rattle.std.specs.Prelude.{◌≡◌, ℕ, List, [], ◌∷◌}
-use Rattle.player_lines.specs.Sessions.{Act, Got, Data, Text, TornData, TornText}
+use Rattle.player_lines.specs.Sessions.{Act, Got, NotGot, Data, Text, TornData, TornText}
 use Rattle.player_lines.specs.declared.passed.Passed.{Passed}
 use Rattle.player_lines.specs.declared.passed.Passed.TheVariants as passed
 
 -- an act that passed
 abbrev pub act_of : Passed → Act
 act_of (passed.Got bytes) = Got bytes.items
+act_of passed.NotGot = NotGot
 act_of (passed.Data piece) = Data piece.items
 act_of (passed.Text line) = Text line.items
 act_of (passed.TornData piece count) = TornData piece.items count

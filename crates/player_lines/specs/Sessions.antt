@@ -1,5 +1,5 @@
 -- What a session answers to the lines that came so far, and when.
-use Rattle.std.specs.Prelude.{◌≡◌, ℕ, Bool, true, ◌⊎◌, cond, ◌==◌, List, [], ◌∷◌, ◌++◌, length, take, codes, decimal, ⊤, Option, Some, None}
+use Rattle.std.specs.Prelude.{◌≡◌, ℕ, ◌+◌, Bool, true, ◌⊎◌, cond, ◌==◌, List, [], ◌∷◌, ◌++◌, length, take, codes, decimal, ⊤, Option, Some, None}
 use Rattle.byte_io.specs.Counts.{Rose}
 
 -- a piece of data as it goes out: a line with the number of its bytes, and the bytes
@@ -10,9 +10,10 @@ data_line count = (codes "data " ++ decimal count) ++ codes "\n"
 abbrev pub frame : List ℕ → List ℕ
 frame piece = data_line (length piece) ++ piece
 
--- what passed between a session and its client: bytes came; a piece of data went, in its frame; text of the last line of an answer went; or only the first bytes of a frame or of a text went, this many
+-- what passed between a session and its client: bytes came; they were asked for, but the read failed; a piece of data went, in its frame; text of the last line of an answer went; or only the first bytes of a frame or of a text went, this many
 pub data Act : Type 0 where
   Got : List ℕ → Act
+  NotGot : Act
   Data : List ℕ → Act
   Text : List ℕ → Act
   TornData : List ℕ → ℕ → Act
@@ -22,6 +23,7 @@ pub data Act : Type 0 where
 abbrev pub came : List Act → List ℕ
 came [] = []
 came (Got bytes ∷ h) = came h ++ bytes
+came (NotGot ∷ h) = came h
 came (Data piece ∷ h) = came h
 came (Text line ∷ h) = came h
 came (TornData piece count ∷ h) = came h
@@ -31,6 +33,7 @@ came (TornText line count ∷ h) = came h
 abbrev pub went : List Act → List ℕ
 went [] = []
 went (Got bytes ∷ h) = went h
+went (NotGot ∷ h) = went h
 went (Data piece ∷ h) = went h ++ frame piece
 went (Text line ∷ h) = went h ++ line
 went (TornData piece count ∷ h) = went h ++ take count (frame piece)
@@ -40,10 +43,30 @@ went (TornText line count ∷ h) = went h ++ take count line
 abbrev pub asked : List Act → List (List Act)
 asked [] = []
 asked (Got bytes ∷ h) = h ∷ asked h
+asked (NotGot ∷ h) = asked h
 asked (Data piece ∷ h) = asked h
 asked (Text line ∷ h) = asked h
 asked (TornData piece count ∷ h) = asked h
 asked (TornText line count ∷ h) = asked h
+
+-- how many reads failed
+abbrev pub failed_reads : List Act → ℕ
+failed_reads [] = 0
+failed_reads (Got bytes ∷ h) = failed_reads h
+failed_reads (NotGot ∷ h) = failed_reads h + 1
+failed_reads (Data piece ∷ h) = failed_reads h
+failed_reads (Text line ∷ h) = failed_reads h
+failed_reads (TornData piece count ∷ h) = failed_reads h
+failed_reads (TornText line count ∷ h) = failed_reads h
+
+-- no read failed
+abbrev pub NoReadFailed : List Act → Type 0
+NoReadFailed h = failed_reads h ≡ 0
+
+-- the last act was a read that failed, and no other read did
+abbrev pub LastReadFailed : List Act → Type 0
+LastReadFailed (NotGot ∷ h) = NoReadFailed h
+LastReadFailed _ = ⊥
 
 -- the lines that bytes hold whole, the newest first, and what stands after the last of them
 pub record Cut : Type 0 where

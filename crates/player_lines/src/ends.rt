@@ -134,6 +134,8 @@ impl<S: Source, K: Sink> Client for Ends<S, K> {
                 Ok(count)
             }
             Err(_) => {
+                let passed = Passed::NotGot;
+                self.passed = self.passed.and(&passed);
                 self.failed = true;
                 Err(Failed)
             }

@@ -7,6 +7,8 @@ use ghost_list::GhostList;
 pub enum Passed {
     /// These bytes came.
     Got(GhostList<u8>),
+    /// Bytes were asked for, but the read failed.
+    NotGot,
     /// This piece of data went, in its frame.
     Data(GhostList<u8>),
     /// This text of the last line of an answer went.

@@ -1,6 +1,6 @@
 -- What `serve N` answers a line, and what a session with a client was.
 use Rattle.std.specs.Prelude.{◌≡◌, ℕ, Bool, true, List, [], ◌++◌, flat_map, ⊤, Option, Some}
-use Rattle.player_lines.specs.Sessions.{Act, AtOnce, IsAnswered, IsBegun, IsEnded, frame, Has, HasFailed, IsNew}
+use Rattle.player_lines.specs.Sessions.{Act, AtOnce, IsAnswered, IsBegun, IsEnded, frame, Has, HasFailed, IsNew, LastReadFailed, NoReadFailed}
 use Rattle.player_uses.specs.declared.outcome.Outcome.{Outcome}
 use Rattle.player_uses.specs.declared.outcome.Outcome.TheVariants.{Done, Json, Shape, Script, ReadFault, WriteFault, TooLong, Memory}
 use Rattle.player_uses.specs.Verdicts.{verdict}
@@ -25,12 +25,12 @@ IsLineAnswer workers number line text =
     × Writes (Step workers) line (Some []) (Some (flat_map (λ piece. piece) pieces)) result
     × (text ≡ flat_map frame pieces ++ verdict number result)
 
--- what was answered, by how a session ended: all lines; all that came whole, if the client could not be read; some first ones, the last of them maybe in part, if it took no more
+-- what was answered, by how a session ended: all lines; all that came whole, if the client could not be read; some first ones, the last of them maybe in part, if it took no more. A read failed only if that is the answer, and then it was the last act
 abbrev pub AnsweredTo : ℕ → Outcome → List Act → Type 0
-AnsweredTo workers Done h = IsEnded (IsLineAnswer workers) h
-AnsweredTo workers ReadFault h = IsAnswered (IsLineAnswer workers) h
-AnsweredTo workers WriteFault h = IsBegun (IsLineAnswer workers) h
-AnsweredTo workers Memory h = IsBegun (IsLineAnswer workers) h
+AnsweredTo workers Done h = IsEnded (IsLineAnswer workers) h × NoReadFailed h
+AnsweredTo workers ReadFault h = IsAnswered (IsLineAnswer workers) h × LastReadFailed h
+AnsweredTo workers WriteFault h = IsBegun (IsLineAnswer workers) h × NoReadFailed h
+AnsweredTo workers Memory h = IsBegun (IsLineAnswer workers) h × NoReadFailed h
 AnsweredTo workers _ h = ⊥
 
 -- a session with a client with which nothing had passed before: whenever bytes were asked for, all lines that had come were answered; and at the end what its outcome says was answered

@@ -3,7 +3,7 @@ use Rattle.std.specs.Prelude.{◌≡◌, ◌==◌, ℕ, ◌-◌, ◌≤◌, ◌<
 use Rattle.std.proofs.Common.{refl, sym, ap, subst, ◌∙◌, append-nil, append_assoc, arith, length-append, length-take}
 use Rattle.std.proofs.lemmas.Bool.Decides.{nat_tests}
 use Rattle.std.proofs.lemmas.List.{take-append-drop, drop_all}
-use Rattle.player_lines.specs.Sessions.{Act, Got, Data, Text, TornData, TornText, came, frame}
+use Rattle.player_lines.specs.Sessions.{Act, Got, NotGot, Data, Text, TornData, TornText, came, frame}
 use Rattle.byte_io.specs.Pieces.{PutAppends}
 use Rattle.byte_io.specs.declared.writing.PutFault.{PutFault}
 use Rattle.byte_io.specs.declared.writing.PutFault.TheVariants.{Failed, Memory}
@@ -62,6 +62,15 @@ pub got_told : (g h : List Act) (n : ℕ) (buf left rest all out : List ℕ) →
     → (n ≡ 0 → 0 < length buf → rest ≡ []) → IsTold h left all out → IsTold g rest all out
 got_told g h n buf left rest all out is fits room cut last told =
     subst (λ (x : List Act). IsTold x rest all out) (sym is) (got_known h n buf left rest all out fits room cut last told)
+
+-- where as much was given as before, as much is left
+pub left_same : (xs : List ℕ) (g h : ℕ) → take h xs ≡ take g xs → drop h xs ≡ drop g xs
+left_same xs g h is = sym (left_more xs [] g h (is ∙ sym (append-nil (take g xs))))
+
+-- a read that failed brought nothing
+pub not_told : (g h : List Act) (left rest all out : List ℕ) → g ≡ NotGot ∷ h → rest ≡ left → IsTold h left all out → IsTold g rest all out
+not_told g h left rest all out is same told =
+    subst (λ (x : List Act). IsTold x rest all out) (sym is) (subst (λ (l : List ℕ). IsTold (NotGot ∷ h) l all out) (sym same) told)
 
 -- ---- bytes went
 

@@ -100,6 +100,8 @@ impl Client for Talk {
                 Ok(count)
             }
             Err(_) => {
+                let passed = Passed::NotGot;
+                self.passed = self.passed.and(&passed);
                 self.failed = true;
                 Err(Failed)
             }

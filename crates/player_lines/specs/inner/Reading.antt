@@ -1,6 +1,6 @@
 -- What a session knows of the bytes that came while it looks at them.
 use Rattle.std.specs.Prelude.{◌≡◌, ℕ, Bool, true, false, ◌+◌, ◌<◌, ◌≤◌, List, [], ◌∷◌, length, ⊤, Option, Some, None, Result, Ok, Err}
-use Rattle.player_lines.specs.Sessions.{Act, Cut, Has, HasFailed, came, went, cut, cut_from, AreAnswers, AtOnce, HasNoMore, IsAnswered, IsBegun, IsEnded}
+use Rattle.player_lines.specs.Sessions.{Act, Cut, Has, HasFailed, came, went, cut, cut_from, AreAnswers, AtOnce, HasNoMore, IsAnswered, IsBegun, IsEnded, NoReadFailed, LastReadFailed}
 use Rattle.player_lines.specs.inner.Pasts.{IsQuiet}
 use Rattle.player_lines.specs.declared.answering.Unkept.{Unkept}
 use Rattle.player_lines.specs.declared.answering.Unkept.TheVariants.{TooLong, Memory}
@@ -17,7 +17,7 @@ abbrev pub Keeps : ℕ → List ℕ → Option Unkept → List ℕ → Type 0
 Keeps most kept None line = (kept ≡ line) × (length line ≤ most)
 Keeps most kept (Some why) line = IsUnkept most why line
 
--- of the bytes that came these are still to be looked at: the lines before them are answered, the given number of lines, and of the line that they go on this is kept
+-- of the bytes that came these are still to be looked at: the lines before them are answered, the given number of lines, and of the line that they go on this is kept; no read failed
 pub record IsLeft (Answers : ℕ → List ℕ → List ℕ → Type 0) (most number : ℕ) (kept : List ℕ) (lost : Option Unkept) (bytes : List ℕ) (h : List Act) : Type 0 where
   pub seen : Cut
   pub cuts : cut_from seen bytes ≡ cut (came h)
@@ -26,12 +26,13 @@ pub record IsLeft (Answers : ℕ → List ℕ → List ℕ → Type 0) (most num
   pub count : number ≡ length seen.whole
   pub once : AtOnce Answers h
   pub quiet : IsQuiet h
+  pub read : NoReadFailed h
 
--- what holds of a known past if a session stops early
+-- what holds of a known past if a session stops early: a read failed only if the client could not be read, and then it was the last act
 abbrev pub StoppedBy : (ℕ → List ℕ → List ℕ → Type 0) → Stop → List Act → Type 0
-StoppedBy Answers stop.Read h = IsAnswered Answers h
-StoppedBy Answers stop.Write h = IsBegun Answers h
-StoppedBy Answers stop.Memory h = IsBegun Answers h
+StoppedBy Answers stop.Read h = IsAnswered Answers h × LastReadFailed h
+StoppedBy Answers stop.Write h = IsBegun Answers h × NoReadFailed h
+StoppedBy Answers stop.Memory h = IsBegun Answers h × NoReadFailed h
 
 -- the bytes were looked at, and these are left; or the session stopped
 abbrev pub Feeds : {X : Type 0} → (List Act → Type 0) → (ℕ → List ℕ → List ℕ → Type 0) → Option (List Act) → Result X Stop → Type 0
@@ -50,7 +51,7 @@ GoesOn Left Answers past (Err why) = Has (λ h. AtOnce Answers h × StoppedBy An
 
 -- what holds of the past at the end of a session
 abbrev pub Ends : {X : Type 0} → (ℕ → List ℕ → List ℕ → Type 0) → Result X Stop → List Act → Type 0
-Ends Answers (Ok _) h = IsEnded Answers h
+Ends Answers (Ok _) h = IsEnded Answers h × NoReadFailed h
 Ends Answers (Err why) h = StoppedBy Answers why h
 
 -- what is kept of a line is no longer than may be
