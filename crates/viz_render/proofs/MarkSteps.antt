@@ -24,32 +24,41 @@ use Rattle.viz_render.specs.inner.Masks.{top, Hides, HidesIn, IsOfBlock, Marks, 
 use Rattle.viz_render.proofs.Hulls.{area_left, area_right}
 use Rattle.viz_render.proofs.Tiles.{taken, pixel_taken, solid_pixel, band_pixel}
 
+-- no marks
+pub marks_none : (n : ℕ) (H : ℕ → ℕ → Type 0) (tops : List ℕ) → length tops ≡ 1032 → Marks n H tops tops
+marks_none n H tops size = record { size = size; blocks = λ x y lt. inl refl }
+
 -- marks after marks
 pub marks_more : (n : ℕ) (H : ℕ → ℕ → Type 0) (start old new : List ℕ) → Marks n H start old → Marks n H old new → Marks n H start new
-marks_more n H start old new before after x y lt =
-    elim (after x y lt) as (λ _. (top new x y ≡ top start x y) ⊎ ((top new x y ≡ n) × H x y)) [
-      | inl same ↦ elim (before x y lt) as (λ _. (top new x y ≡ top start x y) ⊎ ((top new x y ≡ n) × H x y)) [
-        | inl was ↦ inl (same ∙ was)
-        | inr was ↦ inr (same ∙ was.0, was.1)
-      ]
-      | inr now ↦ inr now
-    ]
+marks_more n H start old new before after = record {
+  size = after.size;
+  blocks = λ x y lt.
+      elim (after.blocks x y lt) as (λ _. (top new x y ≡ top start x y) ⊎ ((top new x y ≡ n) × H x y)) [
+        | inl same ↦ elim (before.blocks x y lt) as (λ _. (top new x y ≡ top start x y) ⊎ ((top new x y ≡ n) × H x y)) [
+          | inl was ↦ inl (same ∙ was)
+          | inr was ↦ inr (same ∙ was.0, was.1)
+        ]
+        | inr now ↦ inr now
+      ];
+}
 
 -- marks where something weaker holds
 pub marks_like : (n : ℕ) (H G : ℕ → ℕ → Type 0) (old new : List ℕ) → Marks n H old new → ((x y : ℕ) → H x y → G x y) → Marks n G old new
-marks_like n H G old new marks weaker x y lt =
-    elim (marks x y lt) as (λ _. (top new x y ≡ top old x y) ⊎ ((top new x y ≡ n) × G x y)) [
-      | inl same ↦ inl same
-      | inr now ↦ inr (now.0, weaker x y now.1)
-    ]
+marks_like n H G old new marks weaker = record {
+  size = marks.size;
+  blocks = λ x y lt.
+      elim (marks.blocks x y lt) as (λ _. (top new x y ≡ top old x y) ⊎ ((top new x y ≡ n) × G x y)) [
+        | inl same ↦ inl same
+        | inr now ↦ inr (now.0, weaker x y now.1)
+      ];
+}
 
--- one block
-pub one_marked : (at : Area) (block down place n : ℕ) (old new : List ℕ) → place ≡ down * 129 + block → (at.y + 7) / 8 ≤ down → down < (at.y + at.h) / 8 → block < 128
+one_block : (at : Area) (block down place n : ℕ) (old new : List ℕ) → place ≡ down * 129 + block → (at.y + 7) / 8 ≤ down → down < (at.y + at.h) / 8 → block < 128
     → (slice_index new place ≡ slice_index old place) ⊎ (slice_index new place ≡ n)
     → ((i : ℕ) → i ≢ place → slice_index new i ≡ slice_index old i)
-    → Marks n (IsOfBlock at block) old new
+    → (x y : ℕ) → x < 2064 → (top new x y ≡ top old x y) ⊎ ((top new x y ≡ n) × IsOfBlock at block x y)
 unfolding top
-one_marked at block down place n old new is from to few there other x y lt =
+one_block at block down place n old new is from to few there other x y lt =
     let i : ℕ = y / 8 * 129 + x / 16 in
     let Goal : Type 0 = (slice_index new (y / 8 * 129 + x / 16) ≡ slice_index old (y / 8 * 129 + x / 16)) ⊎ ((slice_index new (y / 8 * 129 + x / 16) ≡ n) × IsOfBlock at block x y) in
     elim (cases_lt (y / 8 * 129 + x / 16) place) as (λ _. Goal) [
@@ -64,6 +73,13 @@ one_marked at block down place n old new is from to few there other x y lt =
             ]
       ]
     ]
+
+-- one block
+pub one_marked : (at : Area) (block down place n : ℕ) (old new : List ℕ) → length new ≡ 1032 → place ≡ down * 129 + block → (at.y + 7) / 8 ≤ down → down < (at.y + at.h) / 8 → block < 128
+    → (slice_index new place ≡ slice_index old place) ⊎ (slice_index new place ≡ n)
+    → ((i : ℕ) → i ≢ place → slice_index new i ≡ slice_index old i)
+    → Marks n (IsOfBlock at block) old new
+one_marked at block down place n old new size is from to few there other = record { size = size; blocks = one_block at block down place n old new is from to few there other }
 
 -- sixteen columns of an area
 pub block_held : (at : Area) (block x y : ℕ) → (at.x + 15) / 16 ≤ block → block < (at.x + at.w) / 16 → IsOfBlock at block x y → holds at x y ≡ true
@@ -159,7 +175,7 @@ pub quad_marked : (area : Rect) (quads : List Quad) (k n : ℕ) (q : Quad) (old 
     → Marks n (λ x y. x < near area.w → y < near area.h → Hides (quad_view q) (area.x +ℤ pos x) (area.y +ℤ pos y)) old new
     → AreMarked area quads new
 quad_marked area quads k n q old new wide marked lt number e marks x y j xw yh is few p f =
-    elim (marks x y (omega arith)) as (λ _. Hides (quad_view p) (area.x +ℤ pos x) (area.y +ℤ pos y)) [
+    elim (marks.blocks x y (omega arith)) as (λ _. Hides (quad_view p) (area.x +ℤ pos x) (area.y +ℤ pos y)) [
       | inl same ↦ marked x y j xw yh (sym same ∙ is) few p f
       | inr now ↦
           let there = now.0 in
@@ -172,7 +188,7 @@ quad_marked area quads k n q old new wide marked lt number e marks x y j xw yh i
 -- and its number
 pub numbers_more : (most n : ℕ) (H : ℕ → ℕ → Type 0) (start old new : List ℕ) → n ≤ most → HaveNumbers most start old → Marks n H old new → HaveNumbers most start new
 numbers_more most n H start old new le before marks x y lt =
-    elim (marks x y lt) as (λ _. (top new x y ≡ top start x y) ⊎ (top new x y ≤ most)) [
+    elim (marks.blocks x y lt) as (λ _. (top new x y ≡ top start x y) ⊎ (top new x y ≤ most)) [
       | inl same ↦ elim (before x y lt) as (λ _. (top new x y ≡ top start x y) ⊎ (top new x y ≤ most)) [
         | inl was ↦ inl (same ∙ was)
         | inr few ↦ inr (omega arith)

@@ -79,7 +79,6 @@ fn mark_quad(tops: &mut [usize], area: Rect, quad: &Quad, passes: &[Surface], nu
     requires tops { length tops.old ≡ block_count }
     requires area { IsStrip area }
     requires quad { CanBeDrawn (length passes.now) (quad_view quad.now) }
-    ensures size { length tops.new ≡ block_count }
     ensures marks { Marks number (λ x y. x < near area.w → y < near area.h → Hides (quad_view quad.now) (area.x +ℤ pos x) (area.y +ℤ pos y)) tops.old tops.new }
 {
     if lies_beside(quad, area, passes.len()) {
@@ -105,7 +104,6 @@ fn mark_tile(
     requires area { IsStrip area }
     requires at { IsSound at }
     requires taken { IsTaken image.now at from }
-    ensures size { length tops.new ≡ block_count }
     ensures marks { Marks number (λ x y. x < near area.w → y < near area.h → Hides (tiled image.now at from) (area.x +ℤ pos x) (area.y +ℤ pos y)) tops.old tops.new }
 {
     let Some(part) = shared_part(at, area) else {
@@ -141,7 +139,6 @@ fn are_marked(tops: &[usize], at: Area) -> bool
 fn mark_part(tops: &mut [usize], image: &TileImage, part: CoveredArea, number: usize)
     requires tops { length tops.old ≡ block_count }
     requires part { IsImagePart image.now part }
-    ensures size { length tops.new ≡ block_count }
     ensures marks { Marks number (HidesIn part.at (part_pixel image.now part)) tops.old tops.new }
 {
     mark_bands(tops, image, part, number);
@@ -152,7 +149,6 @@ fn mark_part(tops: &mut [usize], image: &TileImage, part: CoveredArea, number: u
 fn mark_bands(tops: &mut [usize], image: &TileImage, part: CoveredArea, number: usize)
     requires tops { length tops.old ≡ block_count }
     requires part { IsImagePart image.now part }
-    ensures size { length tops.new ≡ block_count }
     ensures marks { Marks number (HidesIn part.at (part_pixel image.now part)) tops.old tops.new }
 {
     let mut done = 0;
@@ -168,7 +164,6 @@ fn mark_bands(tops: &mut [usize], image: &TileImage, part: CoveredArea, number: 
 fn mark_joints(tops: &mut [usize], image: &TileImage, part: CoveredArea, number: usize)
     requires tops { length tops.old ≡ block_count }
     requires part { IsImagePart image.now part }
-    ensures size { length tops.new ≡ block_count }
     ensures marks { Marks number (HidesIn part.at (part_pixel image.now part)) tops.old tops.new }
 {
     for down in (part.at.y + 7) / 8..(part.at.y + part.at.h) / 8 {
@@ -182,7 +177,6 @@ fn mark_joint(tops: &mut [usize], image: &TileImage, part: CoveredArea, down: us
     requires part { IsImagePart image.now part }
     requires top { (part.at.y + 7) / 8 ≤ down }
     requires bottom { down < (part.at.y + part.at.h) / 8 }
-    ensures size { length tops.new ≡ block_count }
     ensures marks { Marks number (HidesIn part.at (part_pixel image.now part)) tops.old tops.new }
 {
     let row = row_number(image, part, 8 * down - part.at.y);
@@ -209,7 +203,6 @@ fn mark_over_bands(
     requires right { block < (part.at.x + part.at.w) / 16 }
     requires top { (part.at.y + 7) / 8 ≤ down }
     requires bottom { down < (part.at.y + part.at.h) / 8 }
-    ensures size { length tops.new ≡ block_count }
     ensures marks { Marks number (HidesIn part.at (part_pixel image.now part)) tops.old tops.new }
 {
     if tops[down * 129 + block] == 0 && is_opaque_block(image, part, block, down) {
@@ -254,7 +247,6 @@ fn mark_band(
     requires some { 1 ≤ rows }
     requires there { row + rows ≤ part.at.h }
     requires equal { (k : ℕ) → k < rows → AreSameRows image.now.list image.now.rect (part.above + row) (part.above + row + k) }
-    ensures size { length tops.new ≡ block_count }
     ensures marks { Marks number (HidesIn part.at (part_pixel image.now part)) tops.old tops.new }
 {
     let at = Area {
@@ -275,7 +267,6 @@ fn mark_row(tops: &mut [usize], at: Area, row: &[u8], from: usize, number: usize
     requires low { at.y + at.h ≤ 64 }
     requires columns { 4 * (from + at.w) ≤ length row.now }
     requires premultiplied { ArePremultiplied row.now }
-    ensures size { length tops.new ≡ block_count }
     ensures marks { Marks number (HidesIn at (λ x y. pixel row.now (x - at.x + from))) tops.old tops.new }
 {
     for block in (at.x + 15) / 16..(at.x + at.w) / 16 {
@@ -292,7 +283,6 @@ fn mark_opaque(tops: &mut [usize], at: Area, block: usize, row: &[u8], from: usi
     requires right { block < (at.x + at.w) / 16 }
     requires columns { 4 * (from + at.w) ≤ length row.now }
     requires premultiplied { ArePremultiplied row.now }
-    ensures size { length tops.new ≡ block_count }
     ensures marks { Marks number (HidesIn at (λ x y. pixel row.now (x - at.x + from))) tops.old tops.new }
 {
     if is_marked(tops, at, block) {
@@ -308,7 +298,6 @@ fn mark_solid(tops: &mut [usize], area: Rect, at: Rect, colour: Colour, number: 
     requires tops { length tops.old ≡ block_count }
     requires area { IsStrip area }
     requires at { IsSound at }
-    ensures size { length tops.new ≡ block_count }
     ensures marks { Marks number (λ x y. x < near area.w → y < near area.h → Hides (plain at colour) (area.x +ℤ pos x) (area.y +ℤ pos y)) tops.old tops.new }
 {
     if colour.a() != 255 {
@@ -324,7 +313,6 @@ fn mark_all(tops: &mut [usize], at: Area, number: usize)
     requires tops { length tops.old ≡ block_count }
     requires wide { at.x + at.w ≤ 2048 }
     requires low { at.y + at.h ≤ 64 }
-    ensures size { length tops.new ≡ block_count }
     ensures marks { Marks number (λ x y. holds at x y ≡ true) tops.old tops.new }
 {
     for block in (at.x + 15) / 16..(at.x + at.w) / 16 {
@@ -337,7 +325,6 @@ fn mark_block(tops: &mut [usize], at: Area, block: usize, number: usize)
     requires tops { length tops.old ≡ block_count }
     requires block { block < 128 }
     requires low { at.y + at.h ≤ 64 }
-    ensures size { length tops.new ≡ block_count }
     ensures marks { Marks number (IsOfBlock at block) tops.old tops.new }
 {
     for down in (at.y + 7) / 8..(at.y + at.h) / 8 {

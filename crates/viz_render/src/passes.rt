@@ -5,7 +5,7 @@ ghost use Rattle.pixel.specs.Rows.{ArePremultiplied};
 ghost use Rattle.page_display_list.specs.Bitmaps.{near, byte_count};
 ghost use Rattle.viz_scene.specs.Views.{quads_view, passes_view};
 ghost use Rattle.viz_scene.specs.Sound.{IsIn};
-ghost use Rattle.viz_render.specs.inner.Drawing.{IsStrip, CanBeDrawn, AreRoomy, PassesCanBeDrawn, ShowsPass};
+ghost use Rattle.viz_render.specs.inner.Drawing.{IsStrip, IsDrawable, CanBeDrawn, AreRoomy, PassesCanBeDrawn, ShowsPass};
 ghost use Rattle.viz_render.specs.inner.Masks.{AreMarked};
 ghost use Rattle.viz_render.specs.inner.Shown.{ShowsSeen, ShowsOpenPass, ShowOpenPasses};
 
@@ -65,10 +65,7 @@ fn draw_inner_pass(
     mask: &mut Mask,
     seen: SeenPasses<'_>,
 )
-    requires area { IsIn 2048 2048 area }
-    requires low { near area.h ≤ 64 }
-    requires quads { All (CanBeDrawn (length passes.now)) (quads_view quads.now) }
-    requires room { byte_count area.w area.h ≤ length surface.old.bytes }
+    requires { IsDrawable area (quads_view quads.now) passes.now surface.old }
     ensures pixels { ShowsOpenPass area seen.entry.group.mask.now.tops seen.entry.group.number passes.now (quads_view quads.now) surface.new }
     ensures size { length surface.new.bytes ≡ length surface.old.bytes }
 {
@@ -89,10 +86,7 @@ fn draw_open_pass(
     mask: &mut Mask,
     root: QuadMask<'_>,
 )
-    requires area { IsIn 2048 2048 area }
-    requires low { near area.h ≤ 64 }
-    requires quads { All (CanBeDrawn (length passes.now)) (quads_view quads.now) }
-    requires room { byte_count area.w area.h ≤ length surface.old.bytes }
+    requires { IsDrawable area (quads_view quads.now) passes.now surface.old }
     ensures pixels { ShowsOpenPass area root.entry.mask.now.tops root.entry.number passes.now (quads_view quads.now) surface.new }
     ensures size { length surface.new.bytes ≡ length surface.old.bytes }
 {
@@ -108,10 +102,7 @@ fn draw_whole_pass(
     passes: &[Surface],
     mask: &mut Mask,
 )
-    requires area { IsIn 2048 2048 area }
-    requires low { near area.h ≤ 64 }
-    requires quads { All (CanBeDrawn (length passes.now)) (quads_view quads.now) }
-    requires room { byte_count area.w area.h ≤ length surface.old.bytes }
+    requires { IsDrawable area (quads_view quads.now) passes.now surface.old }
     ensures pixels { ShowsPass area passes.now (quads_view quads.now) surface.new }
     ensures size { length surface.new.bytes ≡ length surface.old.bytes }
 {

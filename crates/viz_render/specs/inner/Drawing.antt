@@ -10,7 +10,7 @@ use Rattle.page_display_list.specs.Bitmaps.{near, byte_count}
 use Rattle.tile_raster.specs.Images.{Image, list_colour}
 use Rattle.viz_scene.specs.Views.{QuadView, tiled, plain, grouped}
 use Rattle.viz_scene.specs.Pixels.{quads_over}
-use Rattle.viz_scene.specs.Sound.{IsTaken}
+use Rattle.viz_scene.specs.Sound.{IsIn, IsTaken}
 
 -- a rect of the screen that is drawn at once: sound, with at most 2048 columns and 64 rows
 pub record IsStrip (area : Rect) : Type 0 where
@@ -73,6 +73,13 @@ AreRoomy n surfaces = All (λ (s : SurfaceView). n ≤ length s.bytes) surfaces
 -- each quad of each pass can be drawn once the passes before its own are
 abbrev pub PassesCanBeDrawn : List (List QuadView) → Type 0
 PassesCanBeDrawn passes = (i : ℕ) → i < length passes → All (CanBeDrawn i) (slice_index_or passes i [])
+
+-- one pass can be drawn on an area: that lies on the largest screen and is low enough, its quads can be drawn over the passes before it, and its surface has room for the pixels
+pub record IsDrawable (strip : Rect) (drawn : List QuadView) (passes : List SurfaceView) (surface : SurfaceView) : Type 0 where
+  pub area : IsIn 2048 2048 strip
+  pub low : near strip.h ≤ 64
+  pub quads : All (CanBeDrawn (length passes)) drawn
+  pub room : byte_count strip.w strip.h ≤ length surface.bytes
 
 -- the pixels of an area are quads over a colour, if the passes have surfaces of their own
 abbrev pub ShowsQuads : Rect → List SurfaceView → Parts → List QuadView → List ℕ → Type 0

@@ -50,9 +50,12 @@ Hides q x y = (passes : List Parts) (c d : Parts) → quad_over passes x y c q �
 abbrev pub IsHiddenIn : Area → List ℕ → ℕ → Type 0
 IsHiddenIn at tops n = (x y : ℕ) → holds at x y ≡ true → n < top tops x y
 
--- a block has the number that it had, or this one, and then `H` holds of its pixels
-abbrev pub Marks : ℕ → (ℕ → ℕ → Type 0) → List ℕ → List ℕ → Type 0
-Marks n H old new = (x y : ℕ) → x < 2064 → (top new x y ≡ top old x y) ⊎ ((top new x y ≡ n) × H x y)
+-- blocks were marked with this number, where `H` holds of their pixels
+pub record Marks (n : ℕ) (H : ℕ → ℕ → Type 0) (old new : List ℕ) : Type 0 where
+  -- there is still a number for each block
+  pub size : length new ≡ block_count
+  -- a block has the number that it had, or this one, and then `H` holds of its pixels
+  pub blocks : (x y : ℕ) → x < 2064 → (top new x y ≡ top old x y) ⊎ ((top new x y ≡ n) × H x y)
 
 -- a block with the number of a quad was marked by one that hides what is below it
 abbrev pub AreMarked : Rect → List Quad → List ℕ → Type 0

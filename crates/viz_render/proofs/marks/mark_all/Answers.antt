@@ -8,7 +8,6 @@ use Rattle.viz_render.proofs.marks.mark_all.Goals as goal
 pub loop-block-preserved : goal.loop-block-preserved
 loop-block-preserved c = record {
   from = omega (arith, c.loop-block.invariant.from);
-  size = c.mark_block.ensures.size;
   marks =
       marks_more c.args.number (λ x y. holds c.args.at x y ≡ true) c.args.tops.now c.loop-block.tops c.mark_block.new.tops c.loop-block.invariant.marks
       (marks_like c.args.number (IsOfBlock c.args.at c.loop-block.block) (λ x y. holds c.args.at x y ≡ true) c.loop-block.tops c.mark_block.new.tops c.mark_block.ensures.marks

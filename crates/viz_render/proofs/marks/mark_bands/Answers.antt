@@ -14,7 +14,6 @@ mark_band-requires-clause-equal c =
 pub loop-done-preserved : goal.loop-done-preserved
 loop-done-preserved c = record {
   inside = omega (arith, c.equal_rows_at-rows.ensures.most);
-  size = c.mark_band.ensures.size;
   marks =
       marks_more c.args.number (HidesIn c.args.part.at (part_pixel c.args.image.now c.args.part)) c.args.tops.now c.loop-done.tops c.mark_band.new.tops
       c.loop-done.invariant.marks c.mark_band.ensures.marks;

@@ -1,5 +1,5 @@
 -- The rows so far are marked.
-use Rattle.std.specs.Prelude.{◌-◌, ◌≤◌, ◌≡◌, length}
+use Rattle.std.specs.Prelude.{◌-◌, ◌≤◌}
 use Rattle.viz_render.specs.inner.Drawing.{part_pixel}
 use Rattle.viz_render.specs.inner.Masks.{Marks, HidesIn}
 use Rattle.viz_render.proofs.marks.mark_bands.Given as given
@@ -7,7 +7,6 @@ use Rattle.viz_render.proofs.marks.mark_bands.Given as given
 abbrev pub invariant-loop-done : given.invariant-loop-done
 invariant-loop-done l = record {
   inside : l.done ≤ l.part.at.h;
-  size : length l.tops ≡ 1032;
   marks : Marks l.number (HidesIn l.part.at (part_pixel l.image l.part)) l.initial.tops l.tops;
 }
 

@@ -8,7 +8,6 @@ use Rattle.viz_render.proofs.marks.mark_joint.Goals as goal
 pub loop-block-preserved : goal.loop-block-preserved
 loop-block-preserved c = record {
   from = omega (arith, c.loop-block.invariant.from);
-  size = c.mark_over_bands.ensures.size;
   marks =
       marks_more c.args.number (HidesIn c.args.part.at (part_pixel c.args.image.now c.args.part)) c.args.tops.now c.loop-block.tops c.mark_over_bands.new.tops
       c.loop-block.invariant.marks c.mark_over_bands.ensures.marks;

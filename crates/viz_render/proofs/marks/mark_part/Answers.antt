@@ -4,7 +4,9 @@ use Rattle.viz_render.specs.inner.Masks.{HidesIn}
 use Rattle.viz_render.proofs.MarkSteps.{marks_more}
 use Rattle.viz_render.proofs.marks.mark_part.Goals as goal
 
-pub returns-clause-marks : goal.returns-clause-marks
-returns-clause-marks c =
-    marks_more c.args.number (HidesIn c.args.part.at (part_pixel c.args.image.now c.args.part)) c.args.tops.now c.mark_bands.new.tops c.mark_joints.new.tops
-    c.mark_bands.ensures.marks c.mark_joints.ensures.marks
+pub returns : goal.returns
+returns c = record {
+  marks =
+      marks_more c.args.number (HidesIn c.args.part.at (part_pixel c.args.image.now c.args.part)) c.args.tops.now c.mark_bands.new.tops c.mark_joints.new.tops
+      c.mark_bands.ensures.marks c.mark_joints.ensures.marks;
+}

@@ -14,7 +14,7 @@ mark_quad-requires-clause-quad c =
 pub loop-number-preserved : goal.loop-number-preserved
 loop-number-preserved c = record {
   some = omega (arith, c.loop-number.invariant.some);
-  size = c.mark_quad.ensures.size;
+  size = c.mark_quad.ensures.marks.size;
   marked =
       quad_marked c.args.area c.args.quads.now (c.loop-number.number - 1) c.loop-number.number c.index-quads-number.result c.loop-number.tops c.mark_quad.new.tops c.requires.area.wide
       c.loop-number.invariant.marked (omega (arith, c.loop-number.invariant.some, c.loop-number-test.true)) (omega (arith, c.loop-number-test.true)) c.index-quads-number.is c.mark_quad.ensures.marks;

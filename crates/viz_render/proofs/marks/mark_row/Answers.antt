@@ -8,7 +8,6 @@ use Rattle.viz_render.proofs.marks.mark_row.Goals as goal
 pub loop-block-preserved : goal.loop-block-preserved
 loop-block-preserved c = record {
   from = omega (arith, c.loop-block.invariant.from);
-  size = c.mark_opaque.ensures.size;
   marks =
       marks_more c.args.number (HidesIn c.args.at (λ x y. pixel c.args.row.now (x - c.args.at.x + c.args.from))) c.args.tops.now c.loop-block.tops c.mark_opaque.new.tops
       c.loop-block.invariant.marks c.mark_opaque.ensures.marks;

@@ -24,16 +24,18 @@ loop-i-preserved c =
           All-set (λ (xs : SurfaceView). n ≤ length xs.bytes) s i own (omega arith) room;
     })
 
-pub draw_inner_pass-requires-clause-quads : goal.draw_inner_pass-requires-clause-quads
-draw_inner_pass-requires-clause-quads c =
-    rw (c.split_at_mut-before.ensures.front_len, c.deref.ensures.value)
-    (pass_drawable c.args.passes.now c.loop-i.i c.index-passes-i.result c.requires.quads c.loop-i-test.true c.index-passes-i.is)
-
-pub draw_inner_pass-requires-clause-room : goal.draw_inner_pass-requires-clause-room
-draw_inner_pass-requires-clause-room c =
-    room_behind (byte_count c.args.area.w c.args.area.h) c.loop-i.surfaces c.split_at_mut-before.result.1.now c.loop-i.i c.index-rest-0.result
-    (c.loop-i.invariant.room (byte_count c.args.area.w c.args.area.h) c.requires.room) (omega arith)
-    c.split_at_mut-before.ensures.back
+pub draw_inner_pass-requires : goal.draw_inner_pass-requires
+draw_inner_pass-requires c = record {
+  area = c.requires.area;
+  low = c.requires.low;
+  quads =
+      rw (c.split_at_mut-before.ensures.front_len, c.deref.ensures.value)
+      (pass_drawable c.args.passes.now c.loop-i.i c.index-passes-i.result c.requires.quads c.loop-i-test.true c.index-passes-i.is);
+  room =
+      room_behind (byte_count c.args.area.w c.args.area.h) c.loop-i.surfaces c.split_at_mut-before.result.1.now c.loop-i.i c.index-rest-0.result
+      (c.loop-i.invariant.room (byte_count c.args.area.w c.args.area.h) c.requires.room) (omega arith)
+      c.split_at_mut-before.ensures.back;
+}
 
 pub returns : goal.returns
 returns c = record {
