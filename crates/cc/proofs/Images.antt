@@ -14,7 +14,7 @@ use Rattle.tile_visible.specs.Visible.{key_at}
 use Rattle.viz_quads.specs.ShownTiles.{PageTile, IsImageOf}
 use Rattle.cc.specs.declared.kept_tile.KeptTile.{KeptTile}
 use Rattle.cc.specs.inner.Marks.{made_stale}
-use Rattle.cc.specs.KeptTiles.{place_of, IsImageAt, HasItsImage, HaveTheirImages, IsKeptFor, AreKeptFor, IsCurrent, AreCurrent, HaveSameLayers}
+use Rattle.cc.specs.KeptTiles.{place_of, IsImageAt, HasItsImage, HaveTheirImages, IsKeptFor, AreKeptFor, IsCurrent, AreCurrent, AreCached, HaveSameLayers}
 
 some_same : {A : Type 0} (a b : A) → Some a ≡ Some b → a ≡ b
 some_same a b e = cc
@@ -59,17 +59,14 @@ alike_image p m id place image s h = record {
 pub kept_at : (p : Page) (ks : List KeptTile) (i : ℕ) (k : KeptTile) → i < length ks → AreKeptFor p ks → IsKeptFor p (get_or ks i k)
 kept_at p ks i k lt all = All-get_or (IsKeptFor p) ks i k lt all.each
 
-pub same_kept : (p : Page) (ks ns : List KeptTile) → ns ≡ ks → AreKeptFor p ks → AreKeptFor p ns
-same_kept p ks ns e all = subst (AreKeptFor p) (sym e) all
+pub same_cached : (p m : Page) (ks ns : List KeptTile) → ns ≡ ks → AreCached p m ks → AreCached p m ns
+same_cached p m ks ns e all = subst (AreCached p m) (sym e) all
 
-pub same_current : (p : Page) (ks ns : List KeptTile) → ns ≡ ks → AreCurrent p ks → AreCurrent p ns
-same_current p ks ns e all = subst (AreCurrent p) (sym e) all
-
-pub insert_kept : (p : Page) (ks ns : List KeptTile) (i : ℕ) (k : KeptTile) → ns ≡ insert ks i k → AreKeptFor p ks → IsKeptFor p k → AreKeptFor p ns
-insert_kept p ks ns i k e all one = subst (AreKeptFor p) (sym e) (record { each = All-insert (IsKeptFor p) ks i k all.each one })
-
-pub insert_current : (p : Page) (ks ns : List KeptTile) (i : ℕ) (k : KeptTile) → ns ≡ insert ks i k → AreCurrent p ks → (k.is_stale ≡ false → IsCurrent p k) → AreCurrent p ns
-insert_current p ks ns i k e all one = subst (AreCurrent p) (sym e) (record { each = All-insert (λ (k : KeptTile). k.is_stale ≡ false → IsCurrent p k) ks i k all.each one })
+pub insert_cached : (p m : Page) (ks ns : List KeptTile) (i : ℕ) (k : KeptTile) → ns ≡ insert ks i k → AreCached p m ks → IsKeptFor p k → (k.is_stale ≡ false → IsCurrent m k) → AreCached p m ns
+insert_cached p m ks ns i k e all one current = subst (AreCached p m) (sym e) (record {
+  kept = record { each = All-insert (IsKeptFor p) ks i k all.kept.each one };
+  current = record { each = All-insert (λ (k : KeptTile). k.is_stale ≡ false → IsCurrent m k) ks i k all.current.each current };
+})
 
 used_one : (p : Page) (k : KeptTile) (n : ℕ) → IsKeptFor p k → IsKeptFor p (record k { used = n })
 used_one p k n h = record { image = h.image }
@@ -77,11 +74,11 @@ used_one p k n h = record { image = h.image }
 used_one_current : (p : Page) (k : KeptTile) (n : ℕ) → (k.is_stale ≡ false → IsCurrent p k) → k.is_stale ≡ false → IsCurrent p (record k { used = n })
 used_one_current p k n h e = record { there = (h e).there; kept = used_one p k n (h e).kept }
 
-pub used_kept : (p : Page) (ks : List KeptTile) (i n : ℕ) (k : KeptTile) → i < length ks → AreKeptFor p ks → AreKeptFor p (set ks i (record (get_or ks i k) { used = n }))
-used_kept p ks i n k lt all = record { each = All-set (IsKeptFor p) ks i (record (get_or ks i k) { used = n }) (used_one p (get_or ks i k) n (kept_at p ks i k lt all)) all.each }
-
-pub used_current : (p : Page) (ks : List KeptTile) (i n : ℕ) (k : KeptTile) → i < length ks → AreCurrent p ks → AreCurrent p (set ks i (record (get_or ks i k) { used = n }))
-used_current p ks i n k lt all = record { each = All-set (λ (k : KeptTile). k.is_stale ≡ false → IsCurrent p k) ks i (record (get_or ks i k) { used = n }) (used_one_current p (get_or ks i k) n (All-get_or (λ (k : KeptTile). k.is_stale ≡ false → IsCurrent p k) ks i k lt all.each)) all.each }
+pub used_cached : (p m : Page) (ks : List KeptTile) (i n : ℕ) (k : KeptTile) → i < length ks → AreCached p m ks → AreCached p m (set ks i (record (get_or ks i k) { used = n }))
+used_cached p m ks i n k lt all = record {
+  kept = record { each = All-set (IsKeptFor p) ks i (record (get_or ks i k) { used = n }) (used_one p (get_or ks i k) n (kept_at p ks i k lt all.kept)) all.kept.each };
+  current = record { each = All-set (λ (k : KeptTile). k.is_stale ≡ false → IsCurrent m k) ks i (record (get_or ks i k) { used = n }) (used_one_current m (get_or ks i k) n (All-get_or (λ (k : KeptTile). k.is_stale ≡ false → IsCurrent m k) ks i k lt all.current.each)) all.current.each };
+}
 
 pub filter_kept : (p : Page) (f : KeptTile → Bool) (ks ns : List KeptTile) → ns ≡ filter f ks → AreKeptFor p ks → AreKeptFor p ns
 filter_kept p f ks ns e all = subst (AreKeptFor p) (sym e) (record { each = All-filter f (IsKeptFor p) ks all.each })

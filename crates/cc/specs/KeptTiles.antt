@@ -44,6 +44,11 @@ pub record IsCurrent (p : Page) (k : KeptTile) : Type 0 where
 pub record AreCurrent (p : Page) (ks : List KeptTile) : Type 0 where
   pub each : All (λ k. k.is_stale ≡ false → IsCurrent p k) ks
 
+-- these are kept for the active page, and those that are not stale are current in the main page
+pub record AreCached (active main : Page) (ks : List KeptTile) : Type 0 where
+  pub kept : AreKeptFor active ks
+  pub current : AreCurrent main ks
+
 -- two pages have the same layers and the same view
 pub record HaveSameLayers (p q : Page) : Type 0 where
   pub layers : p.layers ≡ q.layers

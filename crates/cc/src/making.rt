@@ -7,7 +7,7 @@ ghost use Rattle.page_properties.specs.OffsetMap.{offset_at, AreOffsets};
 ghost use Rattle.page_layers.specs.Layers.{parts_of, has_id};
 ghost use Rattle.tile_visible.specs.Visible as visible;
 ghost use Rattle.viz_quads.specs.ShownTiles.{tile_of, missing_keys, IsImageOf, AreShownTiles};
-ghost use Rattle.cc.specs.KeptTiles.{place_of, IsImageAt, HaveTheirImages, IsKeptFor, AreKeptFor, IsCurrent, AreCurrent};
+ghost use Rattle.cc.specs.KeptTiles.{place_of, IsImageAt, HaveTheirImages, IsKeptFor, AreKeptFor, IsCurrent, AreCurrent, AreCached};
 
 use crate::kept_tile::KeptTile;
 use geom::{Place, TileKey};
@@ -26,6 +26,13 @@ pub(crate) struct Draw {
     pub(crate) number: u64,
     /// Whether the main page is the active one.
     pub(crate) is_committed: bool,
+}
+
+// The pages that kept tiles are held for.
+#[derive(Clone, Copy)]
+struct Pages<'a> {
+    active: &'a LayerTree,
+    main: &'a LayerTree,
 }
 
 // A place whose image a draw wants.
@@ -98,11 +105,9 @@ fn note_use(one: &mut KeptTile, draw: u64)
 }
 
 // Notes that a draw uses the tile at this index.
-fn note_use_at(active: &LayerTree, main: &LayerTree, kept: &mut Vec<KeptTile>, at: usize, draw: u64)
-    requires kept { AreKeptFor active.now kept.old.items }
-    requires current { AreCurrent main.now kept.old.items }
-    ensures kept { AreKeptFor active.now kept.new.items }
-    ensures current { AreCurrent main.now kept.new.items }
+fn note_use_at(pages: Pages<'_>, kept: &mut Vec<KeptTile>, at: usize, draw: u64)
+    requires cached { AreCached pages.active.now pages.main.now kept.old.items }
+    ensures cached { AreCached pages.entry.active.now pages.entry.main.now kept.new.items }
 {
     if at < kept.len() {
         note_use(&mut kept[at], draw);
@@ -157,20 +162,17 @@ fn insert_at(kept: &mut Vec<KeptTile>, at: usize, one: KeptTile) -> Result<(), A
 }
 
 // Keeps a tile at this index of the list, if there is one.
-#[tactic(auto, using(crate::proofs::Images::same_kept, crate::proofs::Images::same_current))]
+#[tactic(auto, using(crate::proofs::Images::same_cached))]
 fn keep(
-    active: &LayerTree,
-    main: &LayerTree,
+    pages: Pages<'_>,
     kept: &mut Vec<KeptTile>,
     at: usize,
     one: KeptTile,
 ) -> Result<(), AllocError>
-    requires kept { AreKeptFor active.now kept.old.items }
-    requires current { AreCurrent main.now kept.old.items }
-    requires one { IsKeptFor active.now one }
-    requires one_current { one.is_stale ≡ false → IsCurrent main.now one }
-    ensures kept { AreKeptFor active.now kept.new.items }
-    ensures current { AreCurrent main.now kept.new.items }
+    requires cached { AreCached pages.active.now pages.main.now kept.old.items }
+    requires one { IsKeptFor pages.active.now one }
+    requires one_current { one.is_stale ≡ false → IsCurrent pages.main.now one }
+    ensures cached { AreCached pages.entry.active.now pages.entry.main.now kept.new.items }
 {
     if at > kept.len() {
         return Ok(());
@@ -185,24 +187,21 @@ fn keep(
 #[tactic(auto, using(crate::proofs::Images::made_image, crate::proofs::Images::made_kept, crate::proofs::Images::made_current))]
 fn made_and_kept(
     alloc: Global,
-    active: &LayerTree,
-    main: &LayerTree,
+    pages: Pages<'_>,
     kept: &mut Vec<KeptTile>,
     at: usize,
     layer: &Layer,
     wanted: Wanted,
 ) -> Result<Arc<TileImage>, AllocError>
-    requires found { find (has_id layer.now.id) active.now.layers ≡ Some (parts_of layer.now) }
+    requires found { find (has_id layer.now.id) pages.active.now.layers ≡ Some (parts_of layer.now) }
     requires sized { IsLayerSide layer.now.w × IsLayerSide layer.now.h }
-    requires there { IsTrue (has (visible.grid_of active.now (parts_of layer.now)) wanted.place) }
-    requires kept { AreKeptFor active.now kept.old.items }
-    requires current { AreCurrent main.now kept.old.items }
-    requires same { wanted.draw.is_committed ≡ true → active.now ≡ main.now }
-    ensures image { IfOk result (λ image. IsImageAt active.now layer.now.id wanted.place image.value) }
-    ensures kept { AreKeptFor active.now kept.new.items }
-    ensures current { AreCurrent main.now kept.new.items }
+    requires there { IsTrue (has (visible.grid_of pages.active.now (parts_of layer.now)) wanted.place) }
+    requires cached { AreCached pages.active.now pages.main.now kept.old.items }
+    requires same { wanted.draw.is_committed ≡ true → pages.active.now ≡ pages.main.now }
+    ensures image { IfOk result (λ image. IsImageAt pages.entry.active.now layer.now.id wanted.place image.value) }
+    ensures cached { AreCached pages.entry.active.now pages.entry.main.now kept.new.items }
 {
-    let image = made(alloc, active, layer, wanted)?;
+    let image = made(alloc, pages.active, layer, wanted)?;
     let copy = Arc::try_clone(&image)?;
     let one = KeptTile {
         key: key_of(layer, wanted.place),
@@ -210,7 +209,7 @@ fn made_and_kept(
         is_stale: !wanted.draw.is_committed,
         used: wanted.draw.number,
     };
-    match keep(active, main, kept, at, one) {
+    match keep(pages, kept, at, one) {
         Ok(()) => Ok(image),
         Err(refused) => Err(refused),
     }
@@ -220,30 +219,27 @@ fn made_and_kept(
 #[tactic(auto, using(crate::proofs::Images::of_key))]
 fn image_for(
     alloc: Global,
-    active: &LayerTree,
-    main: &LayerTree,
+    pages: Pages<'_>,
     kept: &mut Vec<KeptTile>,
     layer: &Layer,
     wanted: Wanted,
 ) -> Result<Arc<TileImage>, AllocError>
-    requires found { find (has_id layer.now.id) active.now.layers ≡ Some (parts_of layer.now) }
+    requires found { find (has_id layer.now.id) pages.active.now.layers ≡ Some (parts_of layer.now) }
     requires sized { IsLayerSide layer.now.w × IsLayerSide layer.now.h }
-    requires there { IsTrue (has (visible.grid_of active.now (parts_of layer.now)) wanted.place) }
-    requires kept { AreKeptFor active.now kept.old.items }
-    requires current { AreCurrent main.now kept.old.items }
-    requires same { wanted.draw.is_committed ≡ true → active.now ≡ main.now }
-    ensures image { IfOk result (λ image. IsImageAt active.now layer.now.id wanted.place image.value) }
-    ensures kept { AreKeptFor active.now kept.new.items }
-    ensures current { AreCurrent main.now kept.new.items }
+    requires there { IsTrue (has (visible.grid_of pages.active.now (parts_of layer.now)) wanted.place) }
+    requires cached { AreCached pages.active.now pages.main.now kept.old.items }
+    requires same { wanted.draw.is_committed ≡ true → pages.active.now ≡ pages.main.now }
+    ensures image { IfOk result (λ image. IsImageAt pages.entry.active.now layer.now.id wanted.place image.value) }
+    ensures cached { AreCached pages.entry.active.now pages.entry.main.now kept.new.items }
 {
     let key = key_of(layer, wanted.place);
     let at = kept.partition_point(|one| one.key < key);
-    match image_at(active, kept.as_slice(), at, key)? {
+    match image_at(pages.active, kept.as_slice(), at, key)? {
         Some(image) => {
-            note_use_at(active, main, kept, at, wanted.draw.number);
+            note_use_at(pages, kept, at, wanted.draw.number);
             Ok(image)
         }
-        None => made_and_kept(alloc, active, main, kept, at, layer, wanted),
+        None => made_and_kept(alloc, pages, kept, at, layer, wanted),
     }
 }
 
@@ -267,25 +263,22 @@ fn push_tile(
 
 // Adds the tiles of these places of a layer, kept or made.
 fn push_places(
-    active: &LayerTree,
-    main: &LayerTree,
+    pages: Pages<'_>,
     kept: &mut Vec<KeptTile>,
     tiles: &mut Vec<ShownTile>,
     layer: &Layer,
     places: &[Place],
     draw: Draw,
 ) -> Result<(), AllocError>
-    requires found { find (has_id layer.now.id) active.now.layers ≡ Some (parts_of layer.now) }
+    requires found { find (has_id layer.now.id) pages.active.now.layers ≡ Some (parts_of layer.now) }
     requires sized { IsLayerSide layer.now.w × IsLayerSide layer.now.h }
-    requires there { All (λ q. IsTrue (has (visible.grid_of active.now (parts_of layer.now)) q)) places.now }
-    requires kept { AreKeptFor active.now kept.old.items }
-    requires current { AreCurrent main.now kept.old.items }
-    requires same { draw.is_committed ≡ true → active.now ≡ main.now }
-    requires images { HaveTheirImages active.now (map tile_of tiles.old.items) }
+    requires there { All (λ q. IsTrue (has (visible.grid_of pages.active.now (parts_of layer.now)) q)) places.now }
+    requires cached { AreCached pages.active.now pages.main.now kept.old.items }
+    requires same { draw.is_committed ≡ true → pages.active.now ≡ pages.main.now }
+    requires images { HaveTheirImages pages.active.now (map tile_of tiles.old.items) }
     ensures keys { OnOk result (map (λ t. t.key) (map tile_of tiles.new.items) ≡ map (λ t. t.key) (map tile_of tiles.old.items) ++ map (visible.key_at (λ _ _. 0) layer.now.id) places.now) }
-    ensures images { OnOk result (HaveTheirImages active.now (map tile_of tiles.new.items)) }
-    ensures kept { AreKeptFor active.now kept.new.items }
-    ensures current { AreCurrent main.now kept.new.items }
+    ensures images { OnOk result (HaveTheirImages pages.entry.active.now (map tile_of tiles.new.items)) }
+    ensures cached { AreCached pages.entry.active.now pages.entry.main.now kept.new.items }
 {
     let alloc = *tiles.allocator();
     for place in places {
@@ -293,8 +286,8 @@ fn push_places(
             place: *place,
             draw,
         };
-        match image_for(alloc, active, main, kept, layer, wanted) {
-            Ok(image) => push_tile(active, tiles, key_of(layer, *place), image)?,
+        match image_for(alloc, pages, kept, layer, wanted) {
+            Ok(image) => push_tile(pages.active, tiles, key_of(layer, *place), image)?,
             Err(refused) => return Err(refused),
         }
     }
@@ -304,36 +297,25 @@ fn push_places(
 // The tiles of these layers that are shown, in the order of the layers, kept or made.
 fn tiles_in(
     alloc: Global,
-    active: &LayerTree,
-    main: &LayerTree,
+    pages: Pages<'_>,
     offsets: &Offsets,
     kept: &mut Vec<KeptTile>,
     layers: &[OrderedLayer<'_>],
     draw: Draw,
 ) -> Result<Vec<ShownTile>, AllocError>
     requires offsets { AreOffsets (offset_at offsets.now) }
-    requires found { All (λ o. find (has_id o.layer.now.id) active.now.layers ≡ Some (parts_of o.layer.now)) layers.now }
+    requires found { All (λ o. find (has_id o.layer.now.id) pages.active.now.layers ≡ Some (parts_of o.layer.now)) layers.now }
     requires sizes { All (λ o. IsLayerSide o.layer.now.w × IsLayerSide o.layer.now.h) layers.now }
-    requires kept { AreKeptFor active.now kept.old.items }
-    requires current { AreCurrent main.now kept.old.items }
-    requires same { draw.is_committed ≡ true → active.now ≡ main.now }
-    ensures keys { IfOk result (λ tiles. map (λ t. t.key) (map tile_of tiles.items) ≡ flat_map (λ l. map (visible.key_at (λ _ _. 0) l.id) (visible.visible_places active.now (offset_at offsets.now) l)) (map (λ o. parts_of o.layer.now) layers.now)) }
-    ensures images { IfOk result (λ tiles. HaveTheirImages active.now (map tile_of tiles.items)) }
-    ensures kept { AreKeptFor active.now kept.new.items }
-    ensures current { AreCurrent main.now kept.new.items }
+    requires cached { AreCached pages.active.now pages.main.now kept.old.items }
+    requires same { draw.is_committed ≡ true → pages.active.now ≡ pages.main.now }
+    ensures keys { IfOk result (λ tiles. map (λ t. t.key) (map tile_of tiles.items) ≡ flat_map (λ l. map (visible.key_at (λ _ _. 0) l.id) (visible.visible_places pages.entry.active.now (offset_at offsets.now) l)) (map (λ o. parts_of o.layer.now) layers.now)) }
+    ensures images { IfOk result (λ tiles. HaveTheirImages pages.entry.active.now (map tile_of tiles.items)) }
+    ensures cached { AreCached pages.entry.active.now pages.entry.main.now kept.new.items }
 {
     let mut tiles = Vec::new(alloc);
     for one in layers {
-        let places = visible_places(alloc, active, offsets, one.layer)?;
-        push_places(
-            active,
-            main,
-            kept,
-            &mut tiles,
-            one.layer,
-            places.as_slice(),
-            draw,
-        )?;
+        let places = visible_places(alloc, pages.active, offsets, one.layer)?;
+        push_places(pages, kept, &mut tiles, one.layer, places.as_slice(), draw)?;
     }
     Ok(tiles)
 }
@@ -360,5 +342,6 @@ pub(crate) fn shown_tiles(
     let layers = active.layers();
     active.are_sized(layers);
     let order = by_id(alloc, layers)?;
-    tiles_in(alloc, active, main, offsets, kept, order.as_slice(), draw)
+    let pages = Pages { active, main };
+    tiles_in(alloc, pages, offsets, kept, order.as_slice(), draw)
 }

@@ -10,6 +10,6 @@ use Rattle.cc.proofs.making.tiles_in.Goals as goal
 
 pub push_places-requires-clause-there : goal.push_places-requires-clause-there
 push_places-requires-clause-there c =
-    let p = c.args.active.now in
+    let p = c.args.pages.active.now in
     let l = parts_of c.one-item.result.layer.now in
     All-same (λ q. has (grid_of p l) q ≡ true) c.as_slice.result.now (visible_places p (offset_at c.args.offsets.now) l) (c.as_slice.ensures.value ∙ c.in_ok-places.ensures) (seen_there p (offset_at c.args.offsets.now) l)
