@@ -1,0 +1,5 @@
+pub mod ToldInputs
+pub mod ToldRuns
+pub mod MainSides
+pub mod RightPictures
+pub mod MainEnds

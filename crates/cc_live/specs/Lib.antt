@@ -1,0 +1,4 @@
+pub mod Lives
+pub mod Calls
+pub mod MainSide
+pub mod inner
