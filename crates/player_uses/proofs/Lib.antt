@@ -8,5 +8,6 @@ pub mod NotRefused
 pub mod Outputs
 pub mod RightWords
 pub mod SaidTexts
+pub mod StoppedReads
 pub mod Tallies
 pub mod Told

@@ -12,7 +12,7 @@ ghost use Rattle.player_uses.specs.Faults.{Causes, StopsAtFault, RefusedBy, Refu
 ghost use Rattle.player_uses.specs.inner.Recordings.{RecordingFrom, WritesImages, images_of};
 
 use crate::Use;
-use crate::input::{RECORDING_LIMIT, ReadStop, read_all};
+use crate::input::{RECORDING_LIMIT, read_all};
 use crate::outcome::Outcome;
 use byte_io::{PutFault, Sink, Source};
 use recording_check::{RecordingFault, read_images};
@@ -64,6 +64,7 @@ fn put_images<K: Sink>(out: &mut K, bytes: &[u8], spans: &[ImageSpan]) -> Result
 }
 
 // Reads the source to its end, and finds the images in it.
+#[tactic(auto, using(crate::proofs::StoppedReads::no_images, crate::proofs::StoppedReads::answers_images))]
 fn find_images<S: Source>(alloc: Global, source: &mut S) -> Result<Images, Outcome>
     ensures images { RecordingFrom (since (S.given source.old) (S.given source.new)) (S.has_ended source.new) result }
     ensures reads { Reads Use.Frames (S.given source.old) (S.given source.new) }
@@ -72,14 +73,7 @@ fn find_images<S: Source>(alloc: Global, source: &mut S) -> Result<Images, Outco
     ensures answers { IfErr result AnswersImages }
     ensures stops { RefusedAtFault (S.faults source.old) (S.faults source.new) (S.has_failed source.new) result }
 {
-    let bytes = match read_all(alloc, source, RECORDING_LIMIT) {
-        Ok(bytes) => bytes,
-        Err(ReadStop::TooLong) => return Err(Outcome::TooLong {
-            limit: RECORDING_LIMIT as u64,
-        }),
-        Err(ReadStop::Fault) => return Err(Outcome::ReadFault),
-        Err(ReadStop::Memory) => return Err(Outcome::Memory),
-    };
+    let bytes = read_all(alloc, source, RECORDING_LIMIT)?;
     match read_images(alloc, bytes.as_slice()) {
         Ok(spans) => Ok(Images { bytes, spans }),
         Err(RecordingFault::Bad { place }) => Err(Outcome::BadRecording { place }),

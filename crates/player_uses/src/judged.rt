@@ -9,7 +9,7 @@ ghost use Rattle.player_uses.specs.Refusals.{recording_limit, ExplainsJudgement}
 ghost use Rattle.player_uses.specs.inner.Judged.{IsJudgement};
 
 use crate::Use;
-use crate::input::{RECORDING_LIMIT, ReadStop, read_all};
+use crate::input::{RECORDING_LIMIT, read_all};
 use crate::outcome::Outcome;
 use byte_io::Source;
 use recording_check::{RecordingFault, Verdict, check};
@@ -31,7 +31,7 @@ fn outcome_of(alloc: Global, bytes: &[u8]) -> Outcome
 }
 
 /// Reads the source to its end, and judges the recording in it without the core and what draws. Nothing is written.
-#[tactic(auto, using(crate::proofs::JudgedInputs::judged_input, crate::proofs::JudgedInputs::judged_words, crate::proofs::JudgedInputs::judged_silent, crate::proofs::JudgedInputs::judged_causes, crate::proofs::JudgedInputs::judged_end))]
+#[tactic(auto, using(crate::proofs::JudgedInputs::judged_input, crate::proofs::JudgedInputs::judged_words, crate::proofs::JudgedInputs::judged_silent, crate::proofs::JudgedInputs::judged_causes, crate::proofs::JudgedInputs::judged_end, crate::proofs::StoppedReads::unjudged_words, crate::proofs::StoppedReads::unjudged_input, crate::proofs::StoppedReads::unjudged_end, crate::proofs::StoppedReads::unjudged_silent, crate::proofs::StoppedReads::unjudged_causes, crate::proofs::StoppedReads::unjudged_answers))]
 pub fn run_check<S: Source>(alloc: Global, source: &mut S) -> Outcome
     ensures words { TellsMisfit (Ok Use.Check) result }
     ensures input { ExplainsJudgement (since (S.given source.old) (S.given source.new)) result }
@@ -45,10 +45,6 @@ pub fn run_check<S: Source>(alloc: Global, source: &mut S) -> Outcome
 {
     match read_all(alloc, source, RECORDING_LIMIT) {
         Ok(bytes) => outcome_of(alloc, bytes.as_slice()),
-        Err(ReadStop::TooLong) => Outcome::TooLong {
-            limit: RECORDING_LIMIT as u64,
-        },
-        Err(ReadStop::Fault) => Outcome::ReadFault,
-        Err(ReadStop::Memory) => Outcome::Memory,
+        Err(outcome) => outcome,
     }
 }

@@ -8,7 +8,7 @@ ghost use Rattle.player_uses.specs.Reading.{GivenAtMost};
 ghost use Rattle.player_uses.specs.Scripts.{ScriptIn, ScriptFrom};
 ghost use Rattle.player_uses.specs.Faults.{RefusedBy, RefusedAtFault};
 
-use crate::input::{ReadStop, read_all};
+use crate::input::read_all;
 use crate::outcome::Outcome;
 use byte_io::Source;
 use model_history::Script;
@@ -47,7 +47,7 @@ pub fn script_in(alloc: Global, bytes: &[u8]) -> Result<Script, Outcome>
 
 /// Reads the source to its end, and the script in it; or tells why there is none, as [`script_in`] does, by `TooLong` if
 /// the source has more than [`SCRIPT_LIMIT`] bytes, and by `ReadFault` if it failed.
-#[tactic(auto, using(crate::proofs::AskedShots::script_from))]
+#[tactic(auto, using(crate::proofs::AskedShots::script_from, crate::proofs::StoppedReads::no_script, crate::proofs::StoppedReads::answers_script))]
 pub fn read_script_from<S: Source>(alloc: Global, source: &mut S) -> Result<Script, Outcome>
     ensures script { ScriptFrom (since (S.given source.old) (S.given source.new)) (S.has_ended source.new) result }
     ensures reads { GivenAtMost (script_limit + 1) (S.given source.old) (S.given source.new) }
@@ -56,12 +56,6 @@ pub fn read_script_from<S: Source>(alloc: Global, source: &mut S) -> Result<Scri
     ensures answers { IfErr result AnswersScript }
     ensures stops { RefusedAtFault (S.faults source.old) (S.faults source.new) (S.has_failed source.new) result }
 {
-    match read_all(alloc, source, SCRIPT_LIMIT) {
-        Ok(bytes) => script_in(alloc, bytes.as_slice()),
-        Err(ReadStop::TooLong) => Err(Outcome::TooLong {
-            limit: SCRIPT_LIMIT as u64,
-        }),
-        Err(ReadStop::Fault) => Err(Outcome::ReadFault),
-        Err(ReadStop::Memory) => Err(Outcome::Memory),
-    }
+    let bytes = read_all(alloc, source, SCRIPT_LIMIT)?;
+    script_in(alloc, bytes.as_slice())
 }

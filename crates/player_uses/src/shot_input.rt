@@ -11,7 +11,7 @@ ghost use Rattle.player_uses.specs.Shots.{picture_inputs, shot_inputs, with_shot
 ghost use Rattle.player_uses.specs.Faults.{RefusedBy, RefusedAtFault};
 ghost use Rattle.player_uses.specs.inner.Shots.{PartsIn, JudgedShot, ShotIn};
 
-use crate::input::{ReadStop, read_all};
+use crate::input::read_all;
 use crate::outcome::Outcome;
 use crate::script_input::SCRIPT_LIMIT;
 use byte_io::Source;
@@ -118,7 +118,7 @@ fn shot_in(alloc: Global, bytes: &[u8]) -> Result<Script, Outcome>
 
 /// Reads the source to its end, and the script in it, asked for its picture if it asks for nothing; or tells why there
 /// is none, as [`read_script_from`](crate::read_script_from) does.
-#[tactic(auto, using(crate::proofs::AskedShots::shot_from))]
+#[tactic(auto, using(crate::proofs::AskedShots::shot_from, crate::proofs::StoppedReads::no_script, crate::proofs::StoppedReads::answers_script))]
 pub fn read_shot_from<S: Source>(alloc: Global, source: &mut S) -> Result<Script, Outcome>
     ensures script { ShotFrom (since (S.given source.old) (S.given source.new)) (S.has_ended source.new) result }
     ensures reads { GivenAtMost (script_limit + 1) (S.given source.old) (S.given source.new) }
@@ -127,12 +127,6 @@ pub fn read_shot_from<S: Source>(alloc: Global, source: &mut S) -> Result<Script
     ensures answers { IfErr result AnswersScript }
     ensures stops { RefusedAtFault (S.faults source.old) (S.faults source.new) (S.has_failed source.new) result }
 {
-    match read_all(alloc, source, SCRIPT_LIMIT) {
-        Ok(bytes) => shot_in(alloc, bytes.as_slice()),
-        Err(ReadStop::TooLong) => Err(Outcome::TooLong {
-            limit: SCRIPT_LIMIT as u64,
-        }),
-        Err(ReadStop::Fault) => Err(Outcome::ReadFault),
-        Err(ReadStop::Memory) => Err(Outcome::Memory),
-    }
+    let bytes = read_all(alloc, source, SCRIPT_LIMIT)?;
+    shot_in(alloc, bytes.as_slice())
 }
