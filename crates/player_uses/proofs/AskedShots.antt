@@ -1,33 +1,47 @@
 -- The script that a text says, or asked for its picture, is that of its source.
-use Rattle.std.proofs.Common.{ℕ, ◌≤◌, Bool, List, length, Ok, Err, sym, subst}
+use Rattle.std.proofs.Common.{◌≡◌, ℕ, ◌≤◌, true, Bool, List, length, Ok, Err, sym, ◌∙◌, subst}
 use Rattle.std.specs.Prelude.{Result}
 use Rattle.byte_io.specs.Logs.{since}
+use Rattle.model_history.specs.Accepted.{IsAccepted}
+use Rattle.model_history.specs.Ranges.{is_in_ranges}
 use Rattle.model_history.specs.Scripts.{ScriptModel}
 use Rattle.script_json.specs.Causes.{IsScriptText}
 use Rattle.player_uses.specs.declared.outcome.Outcome.{Outcome}
-use Rattle.player_uses.specs.declared.outcome.Outcome.TheVariants.{Done, Usage, Json, Shape, Script, ReadFault, WriteFault, TooLong, BadRecording, No, Memory, NoPicture}
+use Rattle.player_uses.specs.declared.outcome.Outcome.TheVariants.{Json, Shape, Script, TooLong, Memory}
 use Rattle.player_uses.specs.inner.Inputs.{ReadWhole}
+use Rattle.player_uses.specs.inner.Parts.{JudgedParts, RefusedParts}
 use Rattle.player_uses.specs.inner.Shots.{JudgedShot, ShotIn}
 use Rattle.player_uses.specs.Reading.{IsJudgedWhole}
 use Rattle.player_uses.specs.Refusals.{script_limit}
 use Rattle.player_uses.specs.Scripts.{IsNone, IsNoneOf, IsStopped, ScriptIn, ScriptFrom}
-use Rattle.player_uses.specs.Shots.{ShotFrom}
+use Rattle.player_uses.specs.Shots.{ShotFrom, with_shot}
+use Rattle.player_uses.proofs.AskedScripts.{said_accepted}
+
+-- where the bytes say a script that is refused, there is none
+refused_none : (bytes : List ℕ) (said : ScriptModel) (o : Outcome) → length bytes ≤ script_limit → IsScriptText bytes said → RefusedParts said o → IsNone bytes o
+refused_none bytes said (Script frame command fault) few text refused = (few, said, text, refused)
+refused_none bytes said Memory few text refused = tt
+refused_none bytes said _ few text refused = absurd refused
 
 -- a script whose parts the bytes say, or why it is refused
+pub script_in : (bytes : List ℕ) (said : ScriptModel) (result : Result ScriptModel Outcome) → length bytes ≤ script_limit → IsScriptText bytes said → JudgedParts said result → ScriptIn bytes result
+script_in bytes said (Ok s) few text (is, accepted) = (subst (IsScriptText bytes) (sym is) text, subst IsAccepted (sym is) accepted)
+script_in bytes said (Err o) few text refused = refused_none bytes said o few text refused
+
+-- the same of one that was asked for its picture
 pub shot_in : (bytes : List ℕ) (said : ScriptModel) (result : Result ScriptModel Outcome) → length bytes ≤ script_limit → IsScriptText bytes said → JudgedShot said result → ShotIn bytes result
-shot_in bytes said (Ok s) few text judged = record { said = said; text = text; accepted = judged.1; asked = judged.0 }
-shot_in bytes said (Err (Script frame command fault)) few text judged = (few, said, text, judged)
-shot_in bytes said (Err Memory) few text judged = tt
-shot_in bytes said (Err Done) few text judged = absurd judged
-shot_in bytes said (Err (Usage word)) few text judged = absurd judged
-shot_in bytes said (Err Json) few text judged = absurd judged
-shot_in bytes said (Err (Shape fault)) few text judged = absurd judged
-shot_in bytes said (Err ReadFault) few text judged = absurd judged
-shot_in bytes said (Err WriteFault) few text judged = absurd judged
-shot_in bytes said (Err (TooLong limit)) few text judged = absurd judged
-shot_in bytes said (Err (BadRecording place)) few text judged = absurd judged
-shot_in bytes said (Err (No event)) few text judged = absurd judged
-shot_in bytes said (Err NoPicture) few text judged = absurd judged
+shot_in bytes said (Ok s) few text (is, accepted) = record { said = said; text = text; accepted = accepted; asked = is }
+shot_in bytes said (Err o) few text refused = refused_none bytes said o few text refused
+
+-- its other inputs are no matter of the commands
+asked_refused : (said : ScriptModel) (o : Outcome) → RefusedParts (with_shot said) o → RefusedParts said o
+asked_refused said (Script frame command fault) refused = refused
+asked_refused said Memory refused = tt
+asked_refused said _ refused = absurd refused
+
+pub asked_judged : (said asked : ScriptModel) (result : Result ScriptModel Outcome) → is_in_ranges said ≡ true → asked ≡ with_shot said → JudgedParts asked result → JudgedShot said result
+asked_judged said asked (Ok s) fits is (same, accepted) = (same ∙ is, said_accepted said fits (subst IsAccepted is accepted))
+asked_judged said asked (Err o) fits is refused = asked_refused said o (subst (λ (m : ScriptModel). RefusedParts m o) is refused)
 
 -- what the bytes of a source say that was read to its end
 module _ (old new : List ℕ) (ended : Bool) (bytes : List ℕ) (read : ReadWhole script_limit old new ended bytes) where
@@ -40,13 +54,7 @@ module _ (old new : List ℕ) (ended : Bool) (bytes : List ℕ) (read : ReadWhol
   none_of (Script frame command fault) none = (given (Script frame command fault) none, read.1, tt)
   none_of (TooLong limit) none = (given (TooLong limit) none, tt, tt)
   none_of Memory none = (tt, tt, tt)
-  none_of Done none = absurd none
-  none_of (Usage word) none = absurd none
-  none_of ReadFault none = absurd none
-  none_of WriteFault none = absurd none
-  none_of (BadRecording place) none = absurd none
-  none_of (No event) none = absurd none
-  none_of NoPicture none = absurd none
+  none_of _ none = absurd none
 
   pub shot_from : (result : Result ScriptModel Outcome) → ShotIn bytes result → ShotFrom (since old new) ended result
   shot_from (Ok s) asked = record {

@@ -1,5 +1,6 @@
 pub mod Fragments
 pub mod Inputs
 pub mod Judged
+pub mod Parts
 pub mod Recordings
 pub mod Shots

@@ -1,37 +1,55 @@
 //! The script in the source.
 
-ghost use Rattle.std.specs.Prelude.{◌≡◌, ℕ, ◌+◌, ◌≤◌, Bool, length, IfErr};
+ghost use Rattle.std.specs.Prelude.{◌≡◌, ℕ, ◌+◌, ◌≤◌, true, Bool, length, IfErr, IfOk};
+ghost use Rattle.model_history.specs.Ranges.{are_short, is_in_ranges};
+ghost use Rattle.model_history.specs.Scripts.{script_of};
 ghost use Rattle.byte_io.specs.Logs.{since};
 ghost use Rattle.player_uses.specs.Refusals.{script_limit};
 ghost use Rattle.player_uses.specs.Answers.{AnswersScript};
 ghost use Rattle.player_uses.specs.Reading.{GivenAtMost};
 ghost use Rattle.player_uses.specs.Scripts.{ScriptIn, ScriptFrom};
 ghost use Rattle.player_uses.specs.Faults.{RefusedBy, RefusedAtFault};
+ghost use Rattle.player_uses.specs.inner.Parts.{JudgedParts, PartsIn};
 
 use crate::input::read_all;
 use crate::outcome::Outcome;
 use byte_io::Source;
-use model_history::Script;
-use script_json::{TextFault, read_script};
+use model_history::{Script, ScriptError, ScriptParts};
+use script_json::{PartsFault, read_parts};
 use std::alloc::Global;
 
 /// The greatest number of bytes of a script.
 pub const SCRIPT_LIMIT: usize = 16777216;
 
-/// The script in a text of at most [`SCRIPT_LIMIT`] bytes, or why there is none: `Json` if the bytes are no JSON text,
-/// `Shape` if their value is no script, `Script` if a command of it is refused, and `Memory`.
-pub fn script_in(alloc: Global, bytes: &[u8]) -> Result<Script, Outcome>
+/// The parts in a text, or why there are none.
+pub(crate) fn parts_in(alloc: Global, bytes: &[u8]) -> Result<ScriptParts, Outcome>
     requires { length bytes.now ≤ script_limit }
-    ensures script { ScriptIn bytes.now result }
+    ensures parts { PartsIn bytes.now result }
+    ensures ranges { IfOk result (λ p. is_in_ranges (script_of p) ≡ true) }
+    ensures short { IfOk result (λ p. are_short (script_of p).main ≡ true) }
     ensures answers { IfErr result AnswersScript }
     ensures stops { (before after : ℕ) (failed : Bool) → after ≡ before → RefusedAtFault before after failed result }
 {
-    match read_script(alloc, bytes) {
+    match read_parts(alloc, bytes) {
+        Ok(parts) => Ok(parts),
+        Err(PartsFault::Json) => Err(Outcome::Json),
+        Err(PartsFault::Shape(fault)) => Err(Outcome::Shape(fault)),
+        Err(PartsFault::Memory(_)) => Err(Outcome::Memory),
+    }
+}
+
+/// The script of these parts, or why it is refused.
+pub(crate) fn accept(alloc: Global, parts: ScriptParts) -> Result<Script, Outcome>
+    requires ranges { is_in_ranges (script_of parts) ≡ true }
+    requires short { are_short (script_of parts).main ≡ true }
+    ensures script { JudgedParts (script_of parts) result }
+    ensures answers { IfErr result AnswersScript }
+    ensures stops { (before after : ℕ) (failed : Bool) → after ≡ before → RefusedAtFault before after failed result }
+{
+    match Script::new(alloc, parts) {
         Ok(script) => Ok(script),
-        Err(TextFault::Json) => Err(Outcome::Json),
-        Err(TextFault::Shape(fault)) => Err(Outcome::Shape(fault)),
         Err(
-            TextFault::Script {
+            ScriptError::Command {
                 frame,
                 command,
                 fault,
@@ -41,8 +59,21 @@ pub fn script_in(alloc: Global, bytes: &[u8]) -> Result<Script, Outcome>
             command,
             fault,
         }),
-        Err(TextFault::Memory(_)) => Err(Outcome::Memory),
+        Err(ScriptError::Memory(_)) => Err(Outcome::Memory),
     }
+}
+
+/// The script in a text of at most [`SCRIPT_LIMIT`] bytes, or why there is none: `Json` if the bytes are no JSON text,
+/// `Shape` if their value is no script, `Script` if a command of it is refused, and `Memory`.
+#[tactic(auto, using(crate::proofs::AskedShots::script_in))]
+pub fn script_in(alloc: Global, bytes: &[u8]) -> Result<Script, Outcome>
+    requires { length bytes.now ≤ script_limit }
+    ensures script { ScriptIn bytes.now result }
+    ensures answers { IfErr result AnswersScript }
+    ensures stops { (before after : ℕ) (failed : Bool) → after ≡ before → RefusedAtFault before after failed result }
+{
+    let parts = parts_in(alloc, bytes)?;
+    accept(alloc, parts)
 }
 
 /// Reads the source to its end, and the script in it; or tells why there is none, as [`script_in`] does, by `TooLong` if

@@ -9,14 +9,13 @@ ghost use Rattle.player_uses.specs.Answers.{AnswersScript};
 ghost use Rattle.player_uses.specs.Reading.{GivenAtMost};
 ghost use Rattle.player_uses.specs.Shots.{picture_inputs, shot_inputs, with_shot, ShotFrom};
 ghost use Rattle.player_uses.specs.Faults.{RefusedBy, RefusedAtFault};
-ghost use Rattle.player_uses.specs.inner.Shots.{PartsIn, JudgedShot, ShotIn};
+ghost use Rattle.player_uses.specs.inner.Shots.{JudgedShot, ShotIn};
 
 use crate::input::read_all;
 use crate::outcome::Outcome;
-use crate::script_input::SCRIPT_LIMIT;
+use crate::script_input::{SCRIPT_LIMIT, accept, parts_in};
 use byte_io::Source;
-use model_history::{Input, Script, ScriptError, ScriptParts};
-use script_json::{PartsFault, read_parts};
+use model_history::{Input, Script, ScriptParts};
 use std::alloc::{AllocError, Global};
 use std::mem;
 
@@ -56,25 +55,8 @@ fn asked(alloc: Global, mut parts: ScriptParts) -> Result<ScriptParts, AllocErro
     Ok(parts)
 }
 
-// The parts in a text, or why there are none.
-fn parts_in(alloc: Global, bytes: &[u8]) -> Result<ScriptParts, Outcome>
-    requires { length bytes.now ≤ script_limit }
-    ensures parts { PartsIn bytes.now result }
-    ensures ranges { IfOk result (λ p. is_in_ranges (script_of p) ≡ true) }
-    ensures short { IfOk result (λ p. are_short (script_of p).main ≡ true) }
-    ensures answers { IfErr result AnswersScript }
-    ensures stops { (before after : ℕ) (failed : Bool) → after ≡ before → RefusedAtFault before after failed result }
-{
-    match read_parts(alloc, bytes) {
-        Ok(parts) => Ok(parts),
-        Err(PartsFault::Json) => Err(Outcome::Json),
-        Err(PartsFault::Shape(fault)) => Err(Outcome::Shape(fault)),
-        Err(PartsFault::Memory(_)) => Err(Outcome::Memory),
-    }
-}
-
 // The script of these parts, asked for its picture; or why it is refused.
-#[tactic(auto, using(crate::proofs::AskedScripts::said_accepted))]
+#[tactic(auto, using(crate::proofs::AskedShots::asked_judged))]
 fn shot_of(alloc: Global, parts: ScriptParts) -> Result<Script, Outcome>
     requires ranges { is_in_ranges (script_of parts) ≡ true }
     requires short { are_short (script_of parts).main ≡ true }
@@ -85,21 +67,7 @@ fn shot_of(alloc: Global, parts: ScriptParts) -> Result<Script, Outcome>
     let Ok(asked) = asked(alloc, parts) else {
         return Err(Outcome::Memory);
     };
-    match Script::new(alloc, asked) {
-        Ok(script) => Ok(script),
-        Err(
-            ScriptError::Command {
-                frame,
-                command,
-                fault,
-            },
-        ) => Err(Outcome::Script {
-            frame,
-            command,
-            fault,
-        }),
-        Err(ScriptError::Memory(_)) => Err(Outcome::Memory),
-    }
+    accept(alloc, asked)
 }
 
 // The script in a text, asked for its picture; or why there is none.
@@ -110,10 +78,8 @@ fn shot_in(alloc: Global, bytes: &[u8]) -> Result<Script, Outcome>
     ensures answers { IfErr result AnswersScript }
     ensures stops { (before after : ℕ) (failed : Bool) → after ≡ before → RefusedAtFault before after failed result }
 {
-    match parts_in(alloc, bytes) {
-        Ok(parts) => shot_of(alloc, parts),
-        Err(outcome) => Err(outcome),
-    }
+    let parts = parts_in(alloc, bytes)?;
+    shot_of(alloc, parts)
 }
 
 /// Reads the source to its end, and the script in it, asked for its picture if it asks for nothing; or tells why there

@@ -1,27 +1,17 @@
 -- A script in a text, asked for its picture.
-use Rattle.std.specs.Prelude.{◌≡◌, ℕ, List, ⊤, Result, Ok, Err}
+use Rattle.std.specs.Prelude.{◌≡◌, ℕ, List, Result, Ok, Err}
 use Rattle.model_history.specs.Accepted.{IsAccepted}
-use Rattle.model_history.specs.Frames.{blank}
-use Rattle.model_history.specs.Judging.{RefusedAt}
-use Rattle.model_history.specs.Scripts.{ScriptModel, script_of}
-use Rattle.model_history.specs.declared.script_parts.ScriptParts.{ScriptParts}
+use Rattle.model_history.specs.Scripts.{ScriptModel}
 use Rattle.script_json.specs.Causes.{IsScriptText}
 use Rattle.player_uses.specs.declared.outcome.Outcome.{Outcome}
-use Rattle.player_uses.specs.declared.outcome.Outcome.TheVariants.{Script, Memory}
 use Rattle.player_uses.specs.Scripts.{IsNone}
 use Rattle.player_uses.specs.Shots.{with_shot}
+use Rattle.player_uses.specs.inner.Parts.{RefusedParts}
 
--- the parts in these bytes, or why there are none
-abbrev pub PartsIn : List ℕ → Result ScriptParts Outcome → Type 0
-PartsIn bytes (Ok p) = IsScriptText bytes (script_of p)
-PartsIn bytes (Err o) = IsNone bytes o
-
--- what is said of a script whose numbers are in their ranges: it is accepted, and was asked for its picture; or this command is the first that is refused; or memory ran out
+-- what is said of a script whose numbers are in their ranges: it is accepted, and was asked for its picture; or why it is refused
 abbrev pub JudgedShot : ScriptModel → Result ScriptModel Outcome → Type 0
 JudgedShot said (Ok s) = (s ≡ with_shot said) × IsAccepted said
-JudgedShot said (Err (Script frame command fault)) = RefusedAt (blank said) said.main frame command fault
-JudgedShot said (Err Memory) = ⊤
-JudgedShot said (Err _) = ⊥
+JudgedShot said (Err o) = RefusedParts said o
 
 -- a script that these bytes said, asked for its picture
 pub record IsAskedIn (bytes : List ℕ) (s : ScriptModel) : Type 0 where

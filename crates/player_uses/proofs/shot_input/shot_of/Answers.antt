@@ -5,5 +5,5 @@ use Rattle.model_history.specs.Scripts.{ScriptModel, script_of}
 use Rattle.player_uses.proofs.AskedScripts.{asked_fits}
 use Rattle.player_uses.proofs.shot_input.shot_of.Goals as goal
 
-pub new-requires-clause-ranges : goal.new-requires-clause-ranges
-new-requires-clause-ranges c = subst (λ (s : ScriptModel). is_in_ranges s ≡ true) (sym c.in-Ok.ensures) (asked_fits (script_of c.args.parts) c.requires.ranges)
+pub accept-requires-clause-ranges : goal.accept-requires-clause-ranges
+accept-requires-clause-ranges c = subst (λ (s : ScriptModel). is_in_ranges s ≡ true) (sym c.in-Ok.ensures) (asked_fits (script_of c.args.parts) c.requires.ranges)
