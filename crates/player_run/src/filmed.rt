@@ -18,19 +18,16 @@ use std::thread::Threads;
 fn film<R: Threads + Sync, K: Sink>(
     rt: &R,
     alloc: Global,
-    script: Script,
+    script: Arc<Script>,
     workers: u32,
     out: &mut K,
 ) -> Outcome
     requires { (1 ≤ workers) × (workers ≤ 16) }
-    ensures films { WritesSome (IsLockstepFilm script) (K.held out.old) (K.held out.new) result }
+    ensures films { WritesSome (IsLockstepFilm script.value) (K.held out.old) (K.held out.new) result }
     ensures grows { K.faults out.old ≤ K.faults out.new }
     ensures cause { Causes 0 0 (K.faults out.old) (K.faults out.new) result }
 {
-    let Ok(shared) = Arc::new(alloc, script) else {
-        return Outcome::Memory;
-    };
-    match film_lockstep(rt, alloc, shared, workers, out) {
+    match film_lockstep(rt, alloc, script, workers, out) {
         Ok(()) => Outcome::Done,
         Err(fault) => Outcome::from(fault),
     }

@@ -66,22 +66,19 @@ fn play_threads<R: Threads + Wait + Sync, G: Gate + Sync, K: Sink + Send>(
 fn play<R: Threads + Wait + Sync, K: Sink + Send, G: Gate + Sync>(
     rt: &R,
     alloc: Global,
-    script: Script,
+    script: Arc<Script>,
     workers: u32,
     out: &mut K,
     gate: &G,
 ) -> Outcome
     requires { (1 ≤ workers) × (workers ≤ 16) }
-    ensures plays { WritesOrBegins (IsPlayOf workers script) (IsPlayUpTo workers script) (K.held out.old) (K.held out.new) result }
+    ensures plays { WritesOrBegins (IsPlayOf workers script.value) (IsPlayUpTo workers script.value) (K.held out.old) (K.held out.new) result }
     ensures grows { K.faults out.old ≤ K.faults out.new }
     ensures cause { Causes 0 0 (K.faults out.old) (K.faults out.new) result }
 {
-    let Ok(shared) = Arc::new(alloc, script) else {
-        return Outcome::Memory;
-    };
-    match play_threads(rt, alloc, &shared, workers, gate, out) {
+    match play_threads(rt, alloc, &script, workers, gate, out) {
         Some(outcome) => outcome,
-        None => play_lockstep(rt, alloc, shared, workers, out),
+        None => play_lockstep(rt, alloc, script, workers, out),
     }
 }
 

@@ -10,11 +10,12 @@ ghost use Rattle.player_uses.specs.Answers.{AnswersSession};
 ghost use Rattle.player_run.specs.Served.{IsLineAnswer, Serves, ServeCause};
 
 use crate::line_player::LinePlayer;
-use crate::step::play;
+use crate::step::play_lockstep;
 use model_history::Script;
 use player_lines::{Answerer, Client, Failed, Session, Stop, Unkept};
 use player_uses::{Outcome, SCRIPT_LIMIT, put_verdict, script_in};
 use std::alloc::Global;
+use std::sync::Arc;
 use std::thread::Threads;
 
 impl LinePlayer {
@@ -25,15 +26,15 @@ impl LinePlayer {
         rt: &R,
         session: &mut Session<C>,
         number: u64,
-        script: Script,
+        script: Arc<Script>,
     ) -> Result<(), Failed>
         requires { session.old.torn ≡ false }
-        ensures answered { (line : List ℕ) → length line ≤ script_limit → IsScriptText line script → IsAccepted script → Answered (IsLineAnswer self.now.workers number line) (C.past session.old.client) (C.past session.new.client) result }
+        ensures answered { (line : List ℕ) → length line ≤ script_limit → IsScriptText line script.value → IsAccepted script.value → Answered (IsLineAnswer self.now.workers number line) (C.past session.old.client) (C.past session.new.client) result }
         ensures whole { OnOk result (session.new.torn ≡ false) }
         ensures grows { C.put_faults session.old.client ≤ C.put_faults session.new.client }
         ensures cause { OnErr result (HasFailed (C.put_faults session.old.client) (C.put_faults session.new.client) session.new.torn) }
     {
-        let outcome = play(rt, self.alloc, script, self.workers, session);
+        let outcome = play_lockstep(rt, self.alloc, script, self.workers, session);
         if session.is_torn() {
             return Err(Failed);
         }

@@ -15,7 +15,7 @@ use std::thread::Threads;
 
 // Plays a script in lockstep with the given number of raster workers, and writes the file of its last picture.
 #[tactic(auto, using(crate::proofs::Pictures::file_shot, crate::proofs::Pictures::no_shot))]
-fn shoot_shared<R: Threads + Sync, K: Sink>(
+fn shoot_script<R: Threads + Sync, K: Sink>(
     rt: &R,
     alloc: Global,
     script: Arc<Script>,
@@ -32,25 +32,6 @@ fn shoot_shared<R: Threads + Sync, K: Sink>(
         Ok(None) => Outcome::NoPicture,
         Err(_) => Outcome::Memory,
     }
-}
-
-// The same, if the script is not shared yet.
-fn shoot_script<R: Threads + Sync, K: Sink>(
-    rt: &R,
-    alloc: Global,
-    script: Script,
-    workers: u32,
-    out: &mut K,
-) -> Outcome
-    requires { (1 ≤ workers) × (workers ≤ 16) }
-    ensures shoots { Shoots script (K.held out.old) (K.held out.new) result }
-    ensures grows { K.faults out.old ≤ K.faults out.new }
-    ensures cause { Causes 0 0 (K.faults out.old) (K.faults out.new) result }
-{
-    let Ok(shared) = Arc::new(alloc, script) else {
-        return Outcome::Memory;
-    };
-    shoot_shared(rt, alloc, shared, workers, out)
 }
 
 /// Plays the script of the source in lockstep with the given number of raster workers, and writes the file of its

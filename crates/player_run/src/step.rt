@@ -41,25 +41,6 @@ pub(crate) fn play_lockstep<R: Threads + Sync, K: Sink>(
     }
 }
 
-/// The same, if the script is not shared yet.
-pub(crate) fn play<R: Threads + Sync, K: Sink>(
-    rt: &R,
-    alloc: Global,
-    script: Script,
-    workers: u32,
-    out: &mut K,
-) -> Outcome
-    requires { (1 ≤ workers) × (workers ≤ 16) }
-    ensures plays { WritesSome (IsRunOf workers script) (K.held out.old) (K.held out.new) result }
-    ensures grows { K.faults out.old ≤ K.faults out.new }
-    ensures cause { Causes 0 0 (K.faults out.old) (K.faults out.new) result }
-{
-    let Ok(shared) = Arc::new(alloc, script) else {
-        return Outcome::Memory;
-    };
-    play_lockstep(rt, alloc, shared, workers, out)
-}
-
 /// Plays the script of the source in lockstep with the given number of raster workers, and writes its recording.
 pub(crate) fn run_step<R: Threads + Sync, S: Source, K: Sink>(
     rt: &R,
@@ -72,7 +53,7 @@ pub(crate) fn run_step<R: Threads + Sync, S: Source, K: Sink>(
     ensures { Did S.Source K.Sink (Ok (Use.Step workers)) source.old source.new out.old out.new result }
 {
     match read_script_from(alloc, source) {
-        Ok(script) => play(rt, alloc, script, workers, out),
+        Ok(script) => play_lockstep(rt, alloc, script, workers, out),
         Err(outcome) => outcome,
     }
 }

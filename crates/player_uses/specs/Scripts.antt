@@ -1,5 +1,7 @@
 -- A script on its way from the source.
 use Rattle.std.specs.Prelude.{◌≡◌, ◌≤◌, ℕ, Bool, true, List, length, ⊤, Result, Ok, Err}
+use Rattle.std.specs.Global.{Global}
+use Rattle.std.specs.declared.sync.Arc.{Arc}
 use Rattle.model_history.specs.Accepted.{IsAccepted}
 use Rattle.model_history.specs.Scripts.{ScriptModel}
 use Rattle.script_json.specs.Causes.{IsScriptText}
@@ -7,6 +9,11 @@ use Rattle.player_uses.specs.declared.outcome.Outcome.{Outcome}
 use Rattle.player_uses.specs.declared.outcome.Outcome.TheVariants.{Done, Usage, ReadFault, WriteFault, Memory}
 use Rattle.player_uses.specs.Reading.{IsJudgedWhole}
 use Rattle.player_uses.specs.Refusals.{script_limit, RefusedScript}
+
+-- the script itself, of one that is to be shared
+abbrev pub shared_script : Result (Arc ScriptModel Global) Outcome → Result ScriptModel Outcome
+shared_script (Ok script) = Ok script.value
+shared_script (Err o) = Err o
 
 -- nothing is to be written
 abbrev pub IsStopped : Outcome → Type 0

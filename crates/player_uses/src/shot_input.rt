@@ -7,6 +7,7 @@ ghost use Rattle.byte_io.specs.Logs.{since};
 ghost use Rattle.player_uses.specs.Refusals.{script_limit};
 ghost use Rattle.player_uses.specs.Answers.{AnswersScript};
 ghost use Rattle.player_uses.specs.Reading.{GivenAtMost};
+ghost use Rattle.player_uses.specs.Scripts.{shared_script};
 ghost use Rattle.player_uses.specs.Shots.{picture_inputs, shot_inputs, with_shot, ShotFrom};
 ghost use Rattle.player_uses.specs.Faults.{RefusedBy, RefusedAtFault};
 ghost use Rattle.player_uses.specs.inner.Shots.{JudgedShot, ShotIn};
@@ -18,6 +19,7 @@ use byte_io::Source;
 use model_history::{Input, Script, ScriptParts};
 use std::alloc::{AllocError, Global};
 use std::mem;
+use std::sync::Arc;
 
 // What asks for a picture of a page after this number of main frames.
 fn inputs_for(alloc: Global, frames: u32) -> Result<Vec<Input>, AllocError>
@@ -57,10 +59,10 @@ fn asked(alloc: Global, mut parts: ScriptParts) -> Result<ScriptParts, AllocErro
 
 // The script of these parts, asked for its picture; or why it is refused.
 #[tactic(auto, using(crate::proofs::AskedShots::asked_judged))]
-fn shot_of(alloc: Global, parts: ScriptParts) -> Result<Script, Outcome>
+fn shot_of(alloc: Global, parts: ScriptParts) -> Result<Arc<Script>, Outcome>
     requires ranges { is_in_ranges (script_of parts) ≡ true }
     requires short { are_short (script_of parts).main ≡ true }
-    ensures script { JudgedShot (script_of parts) result }
+    ensures script { JudgedShot (script_of parts) (shared_script result) }
     ensures answers { IfErr result AnswersScript }
     ensures stops { (before after : ℕ) (failed : Bool) → after ≡ before → RefusedAtFault before after failed result }
 {
@@ -72,9 +74,9 @@ fn shot_of(alloc: Global, parts: ScriptParts) -> Result<Script, Outcome>
 
 // The script in a text, asked for its picture; or why there is none.
 #[tactic(auto, using(crate::proofs::AskedShots::shot_in))]
-fn shot_in(alloc: Global, bytes: &[u8]) -> Result<Script, Outcome>
+fn shot_in(alloc: Global, bytes: &[u8]) -> Result<Arc<Script>, Outcome>
     requires { length bytes.now ≤ script_limit }
-    ensures script { ShotIn bytes.now result }
+    ensures script { ShotIn bytes.now (shared_script result) }
     ensures answers { IfErr result AnswersScript }
     ensures stops { (before after : ℕ) (failed : Bool) → after ≡ before → RefusedAtFault before after failed result }
 {
@@ -85,8 +87,8 @@ fn shot_in(alloc: Global, bytes: &[u8]) -> Result<Script, Outcome>
 /// Reads the source to its end, and the script in it, asked for its picture if it asks for nothing; or tells why there
 /// is none, as [`read_script_from`](crate::read_script_from) does.
 #[tactic(auto, using(crate::proofs::AskedShots::shot_from, crate::proofs::StoppedReads::no_script, crate::proofs::StoppedReads::answers_script))]
-pub fn read_shot_from<S: Source>(alloc: Global, source: &mut S) -> Result<Script, Outcome>
-    ensures script { ShotFrom (since (S.given source.old) (S.given source.new)) (S.has_ended source.new) result }
+pub fn read_shot_from<S: Source>(alloc: Global, source: &mut S) -> Result<Arc<Script>, Outcome>
+    ensures script { ShotFrom (since (S.given source.old) (S.given source.new)) (S.has_ended source.new) (shared_script result) }
     ensures reads { GivenAtMost (script_limit + 1) (S.given source.old) (S.given source.new) }
     ensures grows { S.faults source.old ≤ S.faults source.new }
     ensures cause { RefusedBy (S.faults source.old) (S.faults source.new) result }

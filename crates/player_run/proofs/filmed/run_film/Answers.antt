@@ -7,9 +7,9 @@ use Rattle.player_run.proofs.filmed.run_film.Goals as goal
 
 pub returns-in-Ok : goal.returns-in-Ok
 returns-in-Ok g c =
-    did_play g.S.Source g.K.Sink (Film c.args.workers) c.args.source.now c.read_script_from.new.source c.args.out.now c.film.new.out c.in-Ok.script c.film.result
-    tt (record { said = c.in-Ok.script; text = c.in-Ok.ensures.script.0; accepted = c.in-Ok.ensures.script.2; asked = refl; whole = c.in-Ok.ensures.script.1 }) c.read_script_from.ensures.reads c.in-Ok.ensures.stops
-    (some_plays (IsLockstepFilm c.in-Ok.script) (Film c.args.workers) c.in-Ok.script (g.K.Sink.held c.args.out.now) (g.K.Sink.held c.film.new.out) c.film.result (λ whole is. is) c.film.ensures.films) c.film.ensures.cause
+    did_play g.S.Source g.K.Sink (Film c.args.workers) c.args.source.now c.read_script_from.new.source c.args.out.now c.film.new.out c.in-Ok.script.value c.film.result
+    tt (record { said = c.in-Ok.script.value; text = c.in-Ok.ensures.script.0; accepted = c.in-Ok.ensures.script.2; asked = refl; whole = c.in-Ok.ensures.script.1 }) c.read_script_from.ensures.reads c.in-Ok.ensures.stops
+    (some_plays (IsLockstepFilm c.in-Ok.script.value) (Film c.args.workers) c.in-Ok.script.value (g.K.Sink.held c.args.out.now) (g.K.Sink.held c.film.new.out) c.film.result (λ whole is. is) c.film.ensures.films) c.film.ensures.cause
 
 pub returns-in-Err : goal.returns-in-Err
 returns-in-Err g c =

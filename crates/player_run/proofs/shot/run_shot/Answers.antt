@@ -6,9 +6,9 @@ use Rattle.player_run.proofs.shot.run_shot.Goals as goal
 
 pub returns-in-Ok : goal.returns-in-Ok
 returns-in-Ok g c =
-    did_play g.S.Source g.K.Sink (Shot c.args.workers) c.args.source.now c.read_shot_from.new.source c.args.out.now c.shoot_script.new.out c.in-Ok.script c.shoot_script.result
+    did_play g.S.Source g.K.Sink (Shot c.args.workers) c.args.source.now c.read_shot_from.new.source c.args.out.now c.shoot_script.new.out c.in-Ok.script.value c.shoot_script.result
     tt (record { said = c.in-Ok.ensures.script.said; text = c.in-Ok.ensures.script.text; accepted = c.in-Ok.ensures.script.accepted; asked = c.in-Ok.ensures.script.asked; whole = c.in-Ok.ensures.script.whole }) c.read_shot_from.ensures.reads c.in-Ok.ensures.stops
-    (shot_plays c.args.workers c.in-Ok.script (g.K.Sink.held c.args.out.now) (g.K.Sink.held c.shoot_script.new.out) c.shoot_script.result c.shoot_script.ensures.shoots) c.shoot_script.ensures.cause
+    (shot_plays c.args.workers c.in-Ok.script.value (g.K.Sink.held c.args.out.now) (g.K.Sink.held c.shoot_script.new.out) c.shoot_script.result c.shoot_script.ensures.shoots) c.shoot_script.ensures.cause
 
 pub returns-in-Err : goal.returns-in-Err
 returns-in-Err g c =
