@@ -4,7 +4,7 @@ use Rattle.std.specs.Prelude.{Option}
 use Rattle.std.proofs.lemmas.Bool.{false≢true}
 use Rattle.byte_io.specs.Counts.{Rose}
 use Rattle.player_uses.specs.declared.outcome.Outcome.{Outcome}
-use Rattle.player_uses.specs.declared.outcome.Outcome.TheVariants.{Done, Usage, Json, Shape, Script, ReadFault, WriteFault, TooLong, BadRecording, No, Memory, NoPicture}
+use Rattle.player_uses.specs.declared.outcome.Outcome.TheVariants.{Usage, Json, Shape, Script, ReadFault, WriteFault, TooLong, BadRecording, No, NoPicture}
 use Rattle.player_uses.specs.Answers.{AnswersScript, AnswersImages}
 use Rattle.player_uses.specs.Faults.{Causes, StopsAtFault}
 use Rattle.player_uses.specs.Outcomes.{is_write_fault}
@@ -54,14 +54,4 @@ images_stops old new whole faults_old faults_new failed _ wrote same = same
 -- a fault of the sink has its cause
 pub fault_rose : (a b : ℕ) (o : Outcome) → is_write_fault o ≡ true → Causes 0 0 a b o → Rose a b
 fault_rose a b WriteFault is cause = cause
-fault_rose a b Done is cause = absurd (false≢true is)
-fault_rose a b (Usage word) is cause = absurd (false≢true is)
-fault_rose a b Json is cause = absurd (false≢true is)
-fault_rose a b (Shape fault) is cause = absurd (false≢true is)
-fault_rose a b (Script frame command why) is cause = absurd (false≢true is)
-fault_rose a b ReadFault is cause = absurd (false≢true is)
-fault_rose a b (TooLong limit) is cause = absurd (false≢true is)
-fault_rose a b (BadRecording place) is cause = absurd (false≢true is)
-fault_rose a b (No event) is cause = absurd (false≢true is)
-fault_rose a b NoPicture is cause = absurd (false≢true is)
-fault_rose a b Memory is cause = absurd (false≢true is)
+fault_rose a b _ is cause = absurd (false≢true is)

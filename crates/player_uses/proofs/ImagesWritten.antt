@@ -3,7 +3,7 @@ use Rattle.std.proofs.Common.{◌≡◌, ℕ, List, Ok, inr, sym, subst}
 use Rattle.std.specs.Prelude.{Option}
 use Rattle.player_uses.specs.declared.images.Images.{Images}
 use Rattle.player_uses.specs.declared.outcome.Outcome.{Outcome}
-use Rattle.player_uses.specs.declared.outcome.Outcome.TheVariants.{Done, Usage, Json, Shape, Script, ReadFault, WriteFault, TooLong, BadRecording, No, Memory, NoPicture}
+use Rattle.player_uses.specs.declared.outcome.Outcome.TheVariants.{Done, Usage, WriteFault, Memory}
 use Rattle.player_uses.specs.declared.words.Use.TheVariants.{Frames}
 use Rattle.player_uses.specs.inner.Recordings.{HasImages, WritesImages, images_of}
 use Rattle.player_uses.specs.Answers.{TellsMisfit}
@@ -18,15 +18,7 @@ pub images_output : (i : Images) (bytes : List ℕ) (old new : Option (List ℕ)
 images_output i bytes old new Done has had wrote = (_, output_of i bytes has had, wrote)
 images_output i bytes old new WriteFault has had wrote = (_, output_of i bytes has had, wrote)
 images_output i bytes old new Memory has had wrote = inr (_, output_of i bytes has had, wrote)
-images_output i bytes old new (Usage word) has had wrote = absurd wrote
-images_output i bytes old new Json has had wrote = absurd wrote
-images_output i bytes old new (Shape fault) has had wrote = absurd wrote
-images_output i bytes old new (Script frame command why) has had wrote = absurd wrote
-images_output i bytes old new ReadFault has had wrote = absurd wrote
-images_output i bytes old new (TooLong limit) has had wrote = absurd wrote
-images_output i bytes old new (BadRecording place) has had wrote = absurd wrote
-images_output i bytes old new (No event) has had wrote = absurd wrote
-images_output i bytes old new NoPicture has had wrote = absurd wrote
+images_output i bytes old new _ has had wrote = absurd wrote
 
 taken : (i : Images) (bytes : List ℕ) → HasImages i → bytes ≡ i.bytes.items → TakesRecording bytes
 taken i bytes has had = subst TakesRecording (sym had) (has.few, (has.recording.0, has.recording.1, has.recording.2))
@@ -36,27 +28,9 @@ pub images_cause : (i : Images) (bytes : List ℕ) (old new : Option (List ℕ))
 images_cause i bytes old new Done has had wrote = taken i bytes has had
 images_cause i bytes old new WriteFault has had wrote = taken i bytes has had
 images_cause i bytes old new Memory has had wrote = tt
-images_cause i bytes old new (Usage word) has had wrote = absurd wrote
-images_cause i bytes old new Json has had wrote = absurd wrote
-images_cause i bytes old new (Shape fault) has had wrote = absurd wrote
-images_cause i bytes old new (Script frame command why) has had wrote = absurd wrote
-images_cause i bytes old new ReadFault has had wrote = absurd wrote
-images_cause i bytes old new (TooLong limit) has had wrote = absurd wrote
-images_cause i bytes old new (BadRecording place) has had wrote = absurd wrote
-images_cause i bytes old new (No event) has had wrote = absurd wrote
-images_cause i bytes old new NoPicture has had wrote = absurd wrote
+images_cause i bytes old new _ has had wrote = absurd wrote
 
 -- the words are no matter of it
 pub images_words : (old new : Option (List ℕ)) (whole : List ℕ) (o : Outcome) → WritesImages old new whole o → TellsMisfit (Ok Frames) o
-images_words old new whole Done wrote = tt
-images_words old new whole WriteFault wrote = tt
-images_words old new whole Memory wrote = tt
 images_words old new whole (Usage word) wrote = absurd wrote
-images_words old new whole Json wrote = tt
-images_words old new whole (Shape fault) wrote = tt
-images_words old new whole (Script frame command why) wrote = tt
-images_words old new whole ReadFault wrote = tt
-images_words old new whole (TooLong limit) wrote = tt
-images_words old new whole (BadRecording place) wrote = tt
-images_words old new whole (No event) wrote = tt
-images_words old new whole NoPicture wrote = tt
+images_words old new whole _ wrote = tt

@@ -3,7 +3,7 @@ use Rattle.std.proofs.Common.{ℕ, ◌≤◌, Bool, List, length, sym, subst}
 use Rattle.std.specs.Prelude.{Ok}
 use Rattle.byte_io.specs.Logs.{since}
 use Rattle.player_uses.specs.declared.outcome.Outcome.{Outcome}
-use Rattle.player_uses.specs.declared.outcome.Outcome.TheVariants.{Done, Usage, Json, Shape, Script, ReadFault, WriteFault, TooLong, BadRecording, No, Memory, NoPicture}
+use Rattle.player_uses.specs.declared.outcome.Outcome.TheVariants.{Done, Usage, ReadFault, WriteFault, TooLong, BadRecording, No, Memory}
 use Rattle.player_uses.specs.declared.words.Use.TheVariants.{Check}
 use Rattle.player_uses.specs.inner.Inputs.{ReadWhole}
 use Rattle.player_uses.specs.inner.Judged.{IsJudgement}
@@ -17,14 +17,7 @@ judged_cause bytes Done few is = (few, is)
 judged_cause bytes (No event) few is = (few, is)
 judged_cause bytes (BadRecording place) few is = (few, is)
 judged_cause bytes Memory few is = tt
-judged_cause bytes (Usage word) few is = absurd is
-judged_cause bytes Json few is = absurd is
-judged_cause bytes (Shape fault) few is = absurd is
-judged_cause bytes (Script frame command why) few is = absurd is
-judged_cause bytes ReadFault few is = absurd is
-judged_cause bytes WriteFault few is = absurd is
-judged_cause bytes (TooLong limit) few is = absurd is
-judged_cause bytes NoPicture few is = absurd is
+judged_cause bytes _ few is = absurd is
 
 -- the cause, by the bytes that the source gave
 pub judged_input : (old new : List ℕ) (ended : Bool) (bytes : List ℕ) (o : Outcome) → ReadWhole recording_limit old new ended bytes → IsJudgement bytes o → ExplainsJudgement (since old new) o

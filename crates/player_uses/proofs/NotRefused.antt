@@ -12,7 +12,7 @@ use Rattle.script_json.proofs.ScriptLaws.{one_script}
 use Rattle.recording_check.proofs.LegalRecordings.{legal_not_wrong, legal_not_bad}
 use Rattle.recording_check.proofs.OneReading.{not_bad}
 use Rattle.player_uses.specs.declared.outcome.Outcome.{Outcome}
-use Rattle.player_uses.specs.declared.outcome.Outcome.TheVariants.{Done, Usage, Json, Shape, Script, ReadFault, WriteFault, TooLong, BadRecording, No, Memory, NoPicture}
+use Rattle.player_uses.specs.declared.outcome.Outcome.TheVariants.{Json, Shape, Script, TooLong, BadRecording, No}
 use Rattle.player_uses.specs.Refusals.{script_limit, IsAcceptedText, TakesRecording, TakesHistory, RefusedScript, RefusedRecording, RefusedHistory}
 
 -- a text of a script has no first fault
@@ -31,41 +31,17 @@ script_taken bytes (Script frame command fault) (few, good) (short, s, text, ref
     let taken : TakesFrames (blank s) s.main = subst (λ (t : ScriptModel). TakesFrames (blank t) t.main) (sym same) good.2 in
     frames_taken (blank s) s.main frame command fault taken refused
 script_taken bytes (TooLong limit) (few, good) (is, long) = omega (arith, few, long)
-script_taken bytes Done takes refused = refused
-script_taken bytes (Usage word) takes refused = refused
-script_taken bytes ReadFault takes refused = refused
-script_taken bytes WriteFault takes refused = refused
-script_taken bytes (BadRecording place) takes refused = refused
-script_taken bytes (No event) takes refused = refused
-script_taken bytes Memory takes refused = refused
-script_taken bytes NoPicture takes refused = refused
+script_taken bytes _ takes refused = refused
 
 -- a recording is not refused
 pub recording_taken : (bytes : List ℕ) (result : Outcome) → TakesRecording bytes → RefusedRecording bytes result → ⊥
 recording_taken bytes (BadRecording place) (few, (s, ps, is)) (short, bad) = not_bad bytes s ps place is bad
 recording_taken bytes (TooLong limit) (few, good) (is, long) = omega (arith, few, long)
-recording_taken bytes Done takes refused = refused
-recording_taken bytes (Usage word) takes refused = refused
-recording_taken bytes Json takes refused = refused
-recording_taken bytes (Shape place) takes refused = refused
-recording_taken bytes (Script frame command why) takes refused = refused
-recording_taken bytes ReadFault takes refused = refused
-recording_taken bytes WriteFault takes refused = refused
-recording_taken bytes (No event) takes refused = refused
-recording_taken bytes Memory takes refused = refused
-recording_taken bytes NoPicture takes refused = refused
+recording_taken bytes _ takes refused = refused
 
 -- nor is that of a legal history
 pub history_taken : (bytes : List ℕ) (result : Outcome) → TakesHistory bytes → RefusedHistory bytes result → ⊥
 history_taken bytes (No event) (few, good) (short, wrong) = legal_not_wrong 16 bytes event good wrong
 history_taken bytes (BadRecording place) (few, good) (short, bad) = legal_not_bad 16 bytes place good bad
 history_taken bytes (TooLong limit) (few, good) (is, long) = omega (arith, few, long)
-history_taken bytes Done takes refused = refused
-history_taken bytes (Usage word) takes refused = refused
-history_taken bytes Json takes refused = refused
-history_taken bytes (Shape place) takes refused = refused
-history_taken bytes (Script frame command why) takes refused = refused
-history_taken bytes ReadFault takes refused = refused
-history_taken bytes WriteFault takes refused = refused
-history_taken bytes Memory takes refused = refused
-history_taken bytes NoPicture takes refused = refused
+history_taken bytes _ takes refused = refused

@@ -5,7 +5,7 @@ use Rattle.byte_io.specs.Pieces.{GainsPrefix, WriteCause}
 use Rattle.byte_io.specs.declared.writing.PutFault.{PutFault}
 use Rattle.byte_io.specs.declared.writing.PutFault.TheVariants as put_fault
 use Rattle.player_uses.specs.declared.outcome.Outcome.{Outcome}
-use Rattle.player_uses.specs.declared.outcome.Outcome.TheVariants.{Done, Usage, Json, Shape, Script, ReadFault, WriteFault, TooLong, BadRecording, No, Memory, NoPicture}
+use Rattle.player_uses.specs.declared.outcome.Outcome.TheVariants.{Done, Usage, WriteFault, Memory}
 use Rattle.player_uses.specs.declared.words.Use.{Use}
 use Rattle.player_uses.specs.Answers.{TellsMisfit, IsUnread}
 use Rattle.player_uses.specs.Faults.{Causes}
@@ -33,33 +33,15 @@ fault_cause X f g (put_fault.Memory _) o is cause = subst (λ (z : Outcome). Cau
 
 -- the words are no matter of it
 pub some_words : (P : List ℕ → Type 0) (wanted : Use) (old new : Option (List ℕ)) (o : Outcome) → WritesSome P old new o → TellsMisfit (Ok wanted) o
-some_words P wanted old new Done wrote = tt
-some_words P wanted old new WriteFault wrote = tt
-some_words P wanted old new Memory wrote = tt
 some_words P wanted old new (Usage word) wrote = absurd wrote
-some_words P wanted old new Json wrote = tt
-some_words P wanted old new (Shape fault) wrote = tt
-some_words P wanted old new (Script frame command why) wrote = tt
-some_words P wanted old new ReadFault wrote = tt
-some_words P wanted old new (TooLong limit) wrote = tt
-some_words P wanted old new (BadRecording place) wrote = tt
-some_words P wanted old new (No event) wrote = tt
-some_words P wanted old new NoPicture wrote = tt
+some_words P wanted old new _ wrote = tt
 
 -- nor is what the source has
 pub some_unread : (P : List ℕ → Type 0) (old new : Option (List ℕ)) (o : Outcome) → WritesSome P old new o → IsUnread o
 some_unread P old new Done wrote = tt
 some_unread P old new WriteFault wrote = tt
 some_unread P old new Memory wrote = tt
-some_unread P old new (Usage word) wrote = absurd wrote
-some_unread P old new Json wrote = absurd wrote
-some_unread P old new (Shape fault) wrote = absurd wrote
-some_unread P old new (Script frame command why) wrote = absurd wrote
-some_unread P old new ReadFault wrote = absurd wrote
-some_unread P old new (TooLong limit) wrote = absurd wrote
-some_unread P old new (BadRecording place) wrote = absurd wrote
-some_unread P old new (No event) wrote = absurd wrote
-some_unread P old new NoPicture wrote = absurd wrote
+some_unread P old new _ wrote = absurd wrote
 
 -- what was written, told otherwise
 pub some_as : (P Q : List ℕ → Type 0) (old new : Option (List ℕ)) (o : Outcome) → ((whole : List ℕ) → P whole → Q whole) → WritesSome P old new o → WritesSome Q old new o
@@ -67,12 +49,4 @@ some_as P Q old new Done is wrote = (wrote.0, is wrote.0 wrote.1, wrote.2)
 some_as P Q old new WriteFault is wrote = (wrote.0, is wrote.0 wrote.1, wrote.2)
 some_as P Q old new Memory is (inl same) = inl same
 some_as P Q old new Memory is (inr wrote) = inr (wrote.0, is wrote.0 wrote.1, wrote.2)
-some_as P Q old new (Usage word) is wrote = absurd wrote
-some_as P Q old new Json is wrote = absurd wrote
-some_as P Q old new (Shape fault) is wrote = absurd wrote
-some_as P Q old new (Script frame command why) is wrote = absurd wrote
-some_as P Q old new ReadFault is wrote = absurd wrote
-some_as P Q old new (TooLong limit) is wrote = absurd wrote
-some_as P Q old new (BadRecording place) is wrote = absurd wrote
-some_as P Q old new (No event) is wrote = absurd wrote
-some_as P Q old new NoPicture is wrote = absurd wrote
+some_as P Q old new _ is wrote = absurd wrote
