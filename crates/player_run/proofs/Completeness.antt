@@ -69,15 +69,7 @@ unread_done : (source_old source_new out_old out_new : ℕ) (result : Outcome) �
 unread_done a b c e Done unread faults calm = inl refl
 unread_done a b c e Memory unread faults calm = inr refl
 unread_done a b c e WriteFault unread faults calm = absurd (calm faults)
-unread_done a b c e (Usage word) unread faults calm = absurd unread
-unread_done a b c e Json unread faults calm = absurd unread
-unread_done a b c e (Shape fault) unread faults calm = absurd unread
-unread_done a b c e (Script frame command why) unread faults calm = absurd unread
-unread_done a b c e ReadFault unread faults calm = absurd unread
-unread_done a b c e (TooLong limit) unread faults calm = absurd unread
-unread_done a b c e (BadRecording place) unread faults calm = absurd unread
-unread_done a b c e (No event) unread faults calm = absurd unread
-unread_done a b c e NoPicture unread faults calm = absurd unread
+unread_done a b c e _ unread faults calm = absurd unread
 
 complete_use : (wanted : Use) (bytes : List ℕ) (source_old source_new out_old out_new : ℕ) (result : Outcome) → TellsMisfit (Ok wanted) result → CauseFrom wanted bytes result → Causes source_old source_new out_old out_new result
     → IsComplete wanted bytes source_old source_new out_old out_new result

@@ -7,9 +7,9 @@ use Rattle.byte_io.specs.declared.writing.Sink as writing
 use Rattle.player_lines.specs.declared.client.Client as client
 use Rattle.player_lines.specs.declared.session.Session.{Session}
 use Rattle.player_uses.specs.declared.outcome.Outcome.{Outcome}
-use Rattle.player_uses.specs.declared.outcome.Outcome.TheVariants.{Done, Usage, Json, Shape, Script, ReadFault, WriteFault, TooLong, BadRecording, No, Memory, NoPicture}
+use Rattle.player_uses.specs.declared.outcome.Outcome.TheVariants.{Done, Usage, ReadFault, WriteFault, Memory}
 use Rattle.player_uses.specs.declared.words.Use.{Use}
-use Rattle.player_uses.specs.declared.words.Use.TheVariants.{Step, Play, Gen, Demo, Film, Shot, Frames, Check, Serve}
+use Rattle.player_uses.specs.declared.words.Use.TheVariants.{Frames, Check, Serve}
 use Rattle.player_uses.specs.Answers.{TellsMisfit, AnswersSession, IsUnread, MayAnswer}
 use Rattle.player_uses.specs.Faults.{Causes, StopsAtFault, IsSilent}
 use Rattle.player_uses.specs.Outputs.{WritesSome, DeliversImages}
@@ -25,15 +25,8 @@ use Rattle.player_run.proofs.Outputs.{nothing_written, some_output}
 use Rattle.player_run.proofs.ReadUses.{frames_input, frames_output, check_input}
 
 unless_serve : (wanted : Use) (P : Type 0) → P → UnlessServe (Ok wanted) P
-unless_serve (Step workers) P holds = holds
-unless_serve (Play workers) P holds = holds
-unless_serve (Gen number) P holds = holds
-unless_serve (Demo number) P holds = holds
-unless_serve (Film workers) P holds = holds
-unless_serve (Shot workers) P holds = holds
-unless_serve Frames P holds = holds
-unless_serve Check P holds = holds
 unless_serve (Serve workers) P holds = tt
+unless_serve _ P holds = holds
 
 pub did : {S K P : Type 0} (s : reading.Ghosts S) (k : writing.Ghosts K P) (wanted : Use) (source_old source_new : S) (out_old out_new : K) (o : Outcome)
     → TellsMisfit (Ok wanted) o → CauseFrom wanted (bytes_given s source_old source_new) o → Reads wanted (s.given source_old) (s.given source_new) → ReadToEnd wanted (s.has_ended source_new) o

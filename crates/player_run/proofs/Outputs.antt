@@ -3,24 +3,17 @@ use Rattle.std.proofs.Common.{ℕ, List, [], None, Some, inl, inr, refl, sym, ap
 use Rattle.std.specs.Prelude.{Option}
 use Rattle.std.specs.Io.KnownBytes.{Appends}
 use Rattle.player_uses.specs.declared.outcome.Outcome.{Outcome}
-use Rattle.player_uses.specs.declared.outcome.Outcome.TheVariants.{Done, Usage, Json, Shape, Script, ReadFault, WriteFault, TooLong, BadRecording, No, Memory, NoPicture}
+use Rattle.player_uses.specs.declared.outcome.Outcome.TheVariants.{Done, WriteFault, Memory}
 use Rattle.player_uses.specs.declared.words.Use.{Use}
-use Rattle.player_uses.specs.declared.words.Use.TheVariants.{Step, Play, Gen, Demo, Film, Shot, Frames, Check, Serve}
+use Rattle.player_uses.specs.declared.words.Use.TheVariants.{Play, Check}
 use Rattle.player_uses.specs.Faults.{IsSilent}
 use Rattle.player_uses.specs.Outputs.{WritesSome}
 use Rattle.player_run.specs.Runs.{IsOutput, IsBegun, Writes}
 
 -- what a use writes in all, it was writing
 begun_is : (wanted : Use) (source whole : List ℕ) → IsOutput wanted source whole → IsBegun wanted source whole
-begun_is (Step workers) source whole is = is
 begun_is (Play workers) source whole (s, from, (h, played, is)) = (s, from, (h, played.sound, is))
-begun_is (Gen number) source whole is = is
-begun_is (Demo number) source whole is = is
-begun_is (Film workers) source whole is = is
-begun_is (Shot workers) source whole is = is
-begun_is Frames source whole is = is
-begun_is Check source whole is = is
-begun_is (Serve workers) source whole is = is
+begun_is _ source whole is = is
 
 -- the sink gained what the use writes
 pub some_output : (P : List ℕ → Type 0) (wanted : Use) (source : List ℕ) (old new : Option (List ℕ)) (o : Outcome) → ((whole : List ℕ) → P whole → IsOutput wanted source whole) → WritesSome P old new o → Writes wanted source old new o
@@ -28,15 +21,7 @@ some_output P wanted source old new Done is wrote = (wrote.0, is wrote.0 wrote.1
 some_output P wanted source old new WriteFault is wrote = (wrote.0, begun_is wanted source wrote.0 (is wrote.0 wrote.1), wrote.2)
 some_output P wanted source old new Memory is (inl same) = inl same
 some_output P wanted source old new Memory is (inr wrote) = inr (wrote.0, begun_is wanted source wrote.0 (is wrote.0 wrote.1), wrote.2)
-some_output P wanted source old new (Usage word) is wrote = absurd wrote
-some_output P wanted source old new Json is wrote = absurd wrote
-some_output P wanted source old new (Shape fault) is wrote = absurd wrote
-some_output P wanted source old new (Script frame command why) is wrote = absurd wrote
-some_output P wanted source old new ReadFault is wrote = absurd wrote
-some_output P wanted source old new (TooLong limit) is wrote = absurd wrote
-some_output P wanted source old new (BadRecording place) is wrote = absurd wrote
-some_output P wanted source old new (No event) is wrote = absurd wrote
-some_output P wanted source old new NoPicture is wrote = absurd wrote
+some_output P wanted source old new _ is wrote = absurd wrote
 
 -- nothing was written
 nothing_more : (held : Option (List ℕ)) → Appends held held []

@@ -6,7 +6,7 @@ use Rattle.model_history.proofs.LockstepWords.{lockstep_one}
 use Rattle.player_lockstep.specs.Films.{IsLastImage}
 use Rattle.player_lockstep.specs.Shots.{IsShot}
 use Rattle.player_uses.specs.declared.outcome.Outcome.{Outcome}
-use Rattle.player_uses.specs.declared.outcome.Outcome.TheVariants.{Done, Usage, Json, Shape, Script, ReadFault, WriteFault, TooLong, BadRecording, No, Memory, NoPicture}
+use Rattle.player_uses.specs.declared.outcome.Outcome.TheVariants.{Done, WriteFault, Memory, NoPicture}
 use Rattle.player_uses.specs.Outputs.{WritesSome}
 use Rattle.player_run.specs.inner.Shots.{Shoots}
 use Rattle.player_run.specs.Shots.{HasPicture}
@@ -30,15 +30,7 @@ file_shot s file old new Done shot (whole, is, gains) = (whole, subst (λ (w : L
 file_shot s file old new WriteFault shot (whole, is, gains) = (whole, subst (λ (w : List ℕ). IsShot s (Some w)) (sym is) shot, gains)
 file_shot s file old new Memory shot (inl same) = inl same
 file_shot s file old new Memory shot (inr (whole, is, gains)) = inr (whole, subst (λ (w : List ℕ). IsShot s (Some w)) (sym is) shot, gains)
-file_shot s file old new (Usage word) shot wrote = absurd wrote
-file_shot s file old new Json shot wrote = absurd wrote
-file_shot s file old new (Shape fault) shot wrote = absurd wrote
-file_shot s file old new (Script frame command why) shot wrote = absurd wrote
-file_shot s file old new ReadFault shot wrote = absurd wrote
-file_shot s file old new (TooLong limit) shot wrote = absurd wrote
-file_shot s file old new (BadRecording place) shot wrote = absurd wrote
-file_shot s file old new (No event) shot wrote = absurd wrote
-file_shot s file old new NoPicture shot wrote = absurd wrote
+file_shot s file old new _ shot wrote = absurd wrote
 
 -- where the script has none, nothing was written
 pub no_shot : (s : ScriptModel) (held : Option (List ℕ)) → IsShot s None → Shoots s held held NoPicture

@@ -19,7 +19,7 @@ use Rattle.proxy_threads.specs.Seats.{pairs}
 use Rattle.proxy_threads.specs.Writing.{part}
 use Rattle.proxy_threads.proofs.Holds.{entries_pairs}
 use Rattle.player_uses.specs.declared.outcome.Outcome.{Outcome}
-use Rattle.player_uses.specs.declared.outcome.Outcome.TheVariants.{Done, Usage, Json, Shape, Script, ReadFault, WriteFault, TooLong, BadRecording, No, Memory, NoPicture}
+use Rattle.player_uses.specs.declared.outcome.Outcome.TheVariants.{Done, WriteFault, Memory}
 use Rattle.player_uses.specs.Outputs.{WritesOrBegins, WritesSome}
 use Rattle.player_run.specs.Promises.{HasEnded, IsSoundHistory}
 use Rattle.player_run.specs.Runs.{IsPlayOf, IsPlayUpTo, IsRunOf}
@@ -28,24 +28,7 @@ use Rattle.player_run.proofs.Promised.{sound_of}
 
 end_is : (e : Event) → is_end e ≡ true → e ≡ event.End
 end_is event.End is = refl
-end_is (event.Begin i) is = absurd (cc (is))
-end_is event.BeginPlain is = absurd (cc (is))
-end_is (event.Send k pulls) is = absurd (cc (is))
-end_is (event.Ready k) is = absurd (cc (is))
-end_is (event.Abort k) is = absurd (cc (is))
-end_is (event.Commit k) is = absurd (cc (is))
-end_is (event.Activate k moves) is = absurd (cc (is))
-end_is (event.Scroll i dx dy) is = absurd (cc (is))
-end_is (event.Wheel i target across down moves) is = absurd (cc (is))
-end_is (event.Start w q evicted) is = absurd (cc (is))
-end_is (event.DoneTile w q) is = absurd (cc (is))
-end_is (event.Draw i missing) is = absurd (cc (is))
-end_is (event.Skip i) is = absurd (cc (is))
-end_is event.NoDraw is = absurd (cc (is))
-end_is event.Finish is = absurd (cc (is))
-end_is (event.Await i) is = absurd (cc (is))
-end_is (event.Settle k) is = absurd (cc (is))
-end_is (event.Stop a) is = absurd (cc (is))
+end_is _ is = absurd (cc (is))
 
 -- the last of the entries
 played_last : (es : List Entry) → is_played es ≡ true → (before : List Entry) × (e : Entry) × (es ≡ before ++ e ∷ []) × (is_end e.event ≡ true)
@@ -90,15 +73,7 @@ pub plays_script : (s : ScriptModel) (workers : ℕ) → IsAccepted s → (befor
 plays_script s workers accepted before old new Done lines (r, at, is, gains) = (before ++ part r.script [] (pairs r.entries), play_is s workers accepted before lines r at is, gains)
 plays_script s workers accepted before old new WriteFault lines (r, at, gains) = (before ++ part r.script [] (pairs r.entries), up_to s workers accepted before lines r at, gains)
 plays_script s workers accepted before old new Memory lines (r, at, gains) = inr (before ++ part r.script [] (pairs r.entries), up_to s workers accepted before lines r at, gains)
-plays_script s workers accepted before old new (Usage word) lines ends = absurd ends
-plays_script s workers accepted before old new Json lines ends = absurd ends
-plays_script s workers accepted before old new (Shape fault) lines ends = absurd ends
-plays_script s workers accepted before old new (Script frame command why) lines ends = absurd ends
-plays_script s workers accepted before old new ReadFault lines ends = absurd ends
-plays_script s workers accepted before old new (TooLong limit) lines ends = absurd ends
-plays_script s workers accepted before old new (BadRecording place) lines ends = absurd ends
-plays_script s workers accepted before old new (No event) lines ends = absurd ends
-plays_script s workers accepted before old new NoPicture lines ends = absurd ends
+plays_script s workers accepted before old new _ lines ends = absurd ends
 
 -- the same where they may not have been started
 pub threads_play : (X : Type 0) (s : ScriptModel) (workers : ℕ) → IsAccepted s → (before : List ℕ) (stem : Option Origin) (old new : Option (List ℕ)) (r : Option Outcome) → before ≡ header (script_text s) → stem ≡ Some (record { script = s; workers = workers })
@@ -112,12 +87,4 @@ lockstep_plays s workers old new Done (whole, (h, promised, is), gains) = (whole
 lockstep_plays s workers old new WriteFault (whole, (h, promised, is), gains) = (whole, (h, promised.played.sound, is), gains)
 lockstep_plays s workers old new Memory (inl same) = inl same
 lockstep_plays s workers old new Memory (inr (whole, (h, promised, is), gains)) = inr (whole, (h, promised.played.sound, is), gains)
-lockstep_plays s workers old new (Usage word) wrote = absurd wrote
-lockstep_plays s workers old new Json wrote = absurd wrote
-lockstep_plays s workers old new (Shape fault) wrote = absurd wrote
-lockstep_plays s workers old new (Script frame command why) wrote = absurd wrote
-lockstep_plays s workers old new ReadFault wrote = absurd wrote
-lockstep_plays s workers old new (TooLong limit) wrote = absurd wrote
-lockstep_plays s workers old new (BadRecording place) wrote = absurd wrote
-lockstep_plays s workers old new (No event) wrote = absurd wrote
-lockstep_plays s workers old new NoPicture wrote = absurd wrote
+lockstep_plays s workers old new _ wrote = absurd wrote

@@ -9,7 +9,7 @@ use Rattle.script_json.specs.Causes.{IsScriptText}
 use Rattle.player_uses.specs.declared.outcome.Outcome.{Outcome}
 use Rattle.player_uses.specs.declared.outcome.Outcome.TheVariants.{Done, Usage, Json, Shape, Script, ReadFault, WriteFault, TooLong, BadRecording, No, Memory, NoPicture}
 use Rattle.player_uses.specs.declared.words.Use.{Use}
-use Rattle.player_uses.specs.declared.words.Use.TheVariants.{Step, Play, Gen, Demo, Film, Shot, Frames, Check, Serve}
+use Rattle.player_uses.specs.declared.words.Use.TheVariants.{Step, Play, Gen, Demo, Film, Shot, Serve}
 use Rattle.player_uses.specs.Answers.{TellsMisfit, AnswersScript, AnswersShot, MayAnswer}
 use Rattle.player_uses.specs.Faults.{Causes, StopsAtFault, RefusedBy}
 use Rattle.player_uses.specs.Outputs.{WritesSome, WritesOrBegins}
@@ -29,57 +29,25 @@ use Rattle.player_run.proofs.DoneUses.{did}
 -- what a use writes in all, it was writing
 started : (wanted : Use) (s : ScriptModel) (whole : List ℕ) → IsWritten wanted s whole → IsStarted wanted s whole
 started (Play workers) s whole is = (is.0, is.1.sound, is.2)
-started (Step workers) s whole is = is
-started (Gen number) s whole is = is
-started (Demo number) s whole is = is
-started (Film workers) s whole is = is
-started (Shot workers) s whole is = is
-started Frames s whole is = is
-started Check s whole is = is
-started (Serve workers) s whole is = is
+started _ s whole is = is
 
 pub some_plays : (P : List ℕ → Type 0) (wanted : Use) (s : ScriptModel) (old new : Option (List ℕ)) (o : Outcome) → ((whole : List ℕ) → P whole → IsWritten wanted s whole) → WritesSome P old new o → Plays wanted s old new o
 some_plays P wanted s old new Done is (whole, some, gains) = (whole, is whole some, gains)
 some_plays P wanted s old new WriteFault is (whole, some, gains) = (whole, started wanted s whole (is whole some), gains)
 some_plays P wanted s old new Memory is (inl same) = inl same
 some_plays P wanted s old new Memory is (inr (whole, some, gains)) = inr (whole, started wanted s whole (is whole some), gains)
-some_plays P wanted s old new (Usage word) is wrote = absurd wrote
-some_plays P wanted s old new Json is wrote = absurd wrote
-some_plays P wanted s old new (Shape fault) is wrote = absurd wrote
-some_plays P wanted s old new (Script frame command why) is wrote = absurd wrote
-some_plays P wanted s old new ReadFault is wrote = absurd wrote
-some_plays P wanted s old new (TooLong limit) is wrote = absurd wrote
-some_plays P wanted s old new (BadRecording place) is wrote = absurd wrote
-some_plays P wanted s old new (No event) is wrote = absurd wrote
-some_plays P wanted s old new NoPicture is wrote = absurd wrote
+some_plays P wanted s old new _ is wrote = absurd wrote
 
 pub begun_plays : (wanted : Use) (s : ScriptModel) (old new : Option (List ℕ)) (o : Outcome) → WritesOrBegins (IsWritten wanted s) (IsStarted wanted s) old new o → Plays wanted s old new o
 begun_plays wanted s old new NoPicture wrote = absurd wrote
-begun_plays wanted s old new Done wrote = wrote
-begun_plays wanted s old new (Usage word) wrote = wrote
-begun_plays wanted s old new Json wrote = wrote
-begun_plays wanted s old new (Shape fault) wrote = wrote
-begun_plays wanted s old new (Script frame command why) wrote = wrote
-begun_plays wanted s old new ReadFault wrote = wrote
-begun_plays wanted s old new WriteFault wrote = wrote
-begun_plays wanted s old new (TooLong limit) wrote = wrote
-begun_plays wanted s old new (BadRecording place) wrote = wrote
-begun_plays wanted s old new (No event) wrote = wrote
-begun_plays wanted s old new Memory wrote = wrote
+begun_plays wanted s old new _ wrote = wrote
 
 pub shot_plays : (workers : ℕ) (s : ScriptModel) (old new : Option (List ℕ)) (o : Outcome) → Shoots s old new o → Plays (Shot workers) s old new o
 shot_plays workers s old new NoPicture wrote = wrote
 shot_plays workers s old new Done wrote = wrote
-shot_plays workers s old new (Usage word) wrote = absurd wrote
-shot_plays workers s old new Json wrote = absurd wrote
-shot_plays workers s old new (Shape fault) wrote = absurd wrote
-shot_plays workers s old new (Script frame command why) wrote = absurd wrote
-shot_plays workers s old new ReadFault wrote = absurd wrote
 shot_plays workers s old new WriteFault wrote = wrote
-shot_plays workers s old new (TooLong limit) wrote = absurd wrote
-shot_plays workers s old new (BadRecording place) wrote = absurd wrote
-shot_plays workers s old new (No event) wrote = absurd wrote
 shot_plays workers s old new Memory wrote = wrote
+shot_plays workers s old new _ wrote = absurd wrote
 
 -- ---- a script that was read
 
@@ -92,23 +60,12 @@ takes (Step workers) said bytes whole plays accepted few text is = (few, (said, 
 takes (Play workers) said bytes whole plays accepted few text is = (few, (said, text, accepted.commands))
 takes (Film workers) said bytes whole plays accepted few text is = (few, (said, text, accepted.commands))
 takes (Shot workers) said bytes whole plays accepted few text is = (few, (said, text, accepted.commands, has_picture (with_shot said) whole is))
-takes (Gen number) said bytes whole plays accepted few text is = absurd plays
-takes (Demo number) said bytes whole plays accepted few text is = absurd plays
-takes Frames said bytes whole plays accepted few text is = absurd plays
-takes Check said bytes whole plays accepted few text is = absurd plays
-takes (Serve workers) said bytes whole plays accepted few text is = absurd plays
+takes _ said bytes whole plays accepted few text is = absurd plays
 
 -- which has no picture is refused
 pictureless : (wanted : Use) (said : ScriptModel) (bytes : List ℕ) → IsAccepted said → length bytes ≤ script_limit → IsScriptText bytes said → LacksPicture wanted (script_played wanted said) → Refused wanted bytes NoPicture
 pictureless (Shot workers) said bytes accepted few text lacks = (few, said, text, accepted.commands, lacks)
-pictureless (Step workers) said bytes accepted few text lacks = absurd lacks
-pictureless (Play workers) said bytes accepted few text lacks = absurd lacks
-pictureless (Gen number) said bytes accepted few text lacks = absurd lacks
-pictureless (Demo number) said bytes accepted few text lacks = absurd lacks
-pictureless (Film workers) said bytes accepted few text lacks = absurd lacks
-pictureless Frames said bytes accepted few text lacks = absurd lacks
-pictureless Check said bytes accepted few text lacks = absurd lacks
-pictureless (Serve workers) said bytes accepted few text lacks = absurd lacks
+pictureless _ said bytes accepted few text lacks = absurd lacks
 
 explained : (wanted : Use) (said : ScriptModel) (bytes : List ℕ) (old new : Option (List ℕ)) (o : Outcome) → PlaysScript wanted → IsAccepted said → length bytes ≤ script_limit → IsScriptText bytes said
     → Plays wanted (script_played wanted said) old new o → CauseOf wanted bytes o
@@ -116,26 +73,14 @@ explained wanted said bytes old new Done plays accepted few text (whole, is, gai
 explained wanted said bytes old new WriteFault plays accepted few text (whole, is, gains) = takes wanted said bytes whole plays accepted few text is
 explained wanted said bytes old new Memory plays accepted few text wrote = tt
 explained wanted said bytes old new NoPicture plays accepted few text wrote = pictureless wanted said bytes accepted few text wrote.0
-explained wanted said bytes old new (Usage word) plays accepted few text wrote = absurd wrote
-explained wanted said bytes old new Json plays accepted few text wrote = absurd wrote
-explained wanted said bytes old new (Shape fault) plays accepted few text wrote = absurd wrote
-explained wanted said bytes old new (Script frame command why) plays accepted few text wrote = absurd wrote
-explained wanted said bytes old new ReadFault plays accepted few text wrote = absurd wrote
-explained wanted said bytes old new (TooLong limit) plays accepted few text wrote = absurd wrote
-explained wanted said bytes old new (BadRecording place) plays accepted few text wrote = absurd wrote
-explained wanted said bytes old new (No event) plays accepted few text wrote = absurd wrote
+explained wanted said bytes old new _ plays accepted few text wrote = absurd wrote
 
 -- what is said of a source's bytes, of a use that plays its script
 input_of : (wanted : Use) (source : List ℕ) (o : Outcome) → PlaysScript wanted → CauseOf wanted source o → CauseFrom wanted source o
-input_of (Step workers) source o plays is = is
-input_of (Play workers) source o plays is = is
-input_of (Film workers) source o plays is = is
-input_of (Shot workers) source o plays is = is
 input_of (Gen number) source o plays is = absurd plays
 input_of (Demo number) source o plays is = absurd plays
-input_of Frames source o plays is = is
-input_of Check source o plays is = is
 input_of (Serve workers) source o plays is = absurd plays
+input_of _ source o plays is = is
 
 -- what was written is what the use writes
 written : (wanted : Use) (said : ScriptModel) (source whole : List ℕ) → PlaysScript wanted → IsScriptFrom source said → IsWritten wanted (script_played wanted said) whole → IsOutput wanted source whole
@@ -143,22 +88,14 @@ written (Step workers) said source whole plays from is = (said, from, is)
 written (Play workers) said source whole plays from is = (said, from, is)
 written (Film workers) said source whole plays from is = (said, from, is)
 written (Shot workers) said source whole plays from is = (said, from, is)
-written (Gen number) said source whole plays from is = absurd plays
-written (Demo number) said source whole plays from is = absurd plays
-written Frames said source whole plays from is = absurd plays
-written Check said source whole plays from is = absurd plays
-written (Serve workers) said source whole plays from is = absurd plays
+written _ said source whole plays from is = absurd plays
 
 begun : (wanted : Use) (said : ScriptModel) (source whole : List ℕ) → PlaysScript wanted → IsScriptFrom source said → IsStarted wanted (script_played wanted said) whole → IsBegun wanted source whole
 begun (Step workers) said source whole plays from is = (said, from, is)
 begun (Play workers) said source whole plays from is = (said, from, is)
 begun (Film workers) said source whole plays from is = (said, from, is)
 begun (Shot workers) said source whole plays from is = (said, from, is)
-begun (Gen number) said source whole plays from is = absurd plays
-begun (Demo number) said source whole plays from is = absurd plays
-begun Frames said source whole plays from is = absurd plays
-begun Check said source whole plays from is = absurd plays
-begun (Serve workers) said source whole plays from is = absurd plays
+begun _ said source whole plays from is = absurd plays
 
 output_of : (wanted : Use) (said : ScriptModel) (source : List ℕ) (old new : Option (List ℕ)) (o : Outcome) → PlaysScript wanted → IsScriptFrom source said → Plays wanted (script_played wanted said) old new o → Writes wanted source old new o
 output_of wanted said source old new Done plays from (whole, is, gains) = (whole, written wanted said source whole plays from is, gains)
@@ -166,14 +103,7 @@ output_of wanted said source old new WriteFault plays from (whole, is, gains) = 
 output_of wanted said source old new Memory plays from (inl same) = inl same
 output_of wanted said source old new Memory plays from (inr (whole, is, gains)) = inr (whole, begun wanted said source whole plays from is, gains)
 output_of wanted said source old new NoPicture plays from wrote = wrote.1
-output_of wanted said source old new (Usage word) plays from wrote = absurd wrote
-output_of wanted said source old new Json plays from wrote = absurd wrote
-output_of wanted said source old new (Shape fault) plays from wrote = absurd wrote
-output_of wanted said source old new (Script frame command why) plays from wrote = absurd wrote
-output_of wanted said source old new ReadFault plays from wrote = absurd wrote
-output_of wanted said source old new (TooLong limit) plays from wrote = absurd wrote
-output_of wanted said source old new (BadRecording place) plays from wrote = absurd wrote
-output_of wanted said source old new (No event) plays from wrote = absurd wrote
+output_of wanted said source old new _ plays from wrote = absurd wrote
 
 -- the words are no matter of it
 words_of : (wanted : Use) (s : ScriptModel) (old new : Option (List ℕ)) (o : Outcome) → Plays wanted s old new o → TellsMisfit (Ok wanted) o
@@ -211,11 +141,7 @@ answers_of (Step workers) s old new o plays wrote = script_answers (Step workers
 answers_of (Play workers) s old new o plays wrote = script_answers (Play workers) s old new o (λ lacks. lacks) wrote
 answers_of (Film workers) s old new o plays wrote = script_answers (Film workers) s old new o (λ lacks. lacks) wrote
 answers_of (Shot workers) s old new o plays wrote = shot_answers (Shot workers) s old new o wrote
-answers_of (Gen number) s old new o plays wrote = absurd plays
-answers_of (Demo number) s old new o plays wrote = absurd plays
-answers_of Frames s old new o plays wrote = absurd plays
-answers_of Check s old new o plays wrote = absurd plays
-answers_of (Serve workers) s old new o plays wrote = absurd plays
+answers_of _ s old new o plays wrote = absurd plays
 
 -- how much was read
 reads_of : (wanted : Use) (old new : List ℕ) → PlaysScript wanted → GivenAtMost (script_limit + 1) old new → Reads wanted old new
@@ -223,22 +149,14 @@ reads_of (Step workers) old new plays most = most
 reads_of (Play workers) old new plays most = most
 reads_of (Film workers) old new plays most = most
 reads_of (Shot workers) old new plays most = most
-reads_of (Gen number) old new plays most = absurd plays
-reads_of (Demo number) old new plays most = absurd plays
-reads_of Frames old new plays most = absurd plays
-reads_of Check old new plays most = absurd plays
-reads_of (Serve workers) old new plays most = absurd plays
+reads_of _ old new plays most = absurd plays
 
 end_of : (wanted : Use) (ended : Bool) (o : Outcome) → PlaysScript wanted → IsJudgedWhole ended o → ReadToEnd wanted ended o
 end_of (Step workers) ended o plays whole = whole
 end_of (Play workers) ended o plays whole = whole
 end_of (Film workers) ended o plays whole = whole
 end_of (Shot workers) ended o plays whole = whole
-end_of (Gen number) ended o plays whole = absurd plays
-end_of (Demo number) ended o plays whole = absurd plays
-end_of Frames ended o plays whole = absurd plays
-end_of Check ended o plays whole = absurd plays
-end_of (Serve workers) ended o plays whole = absurd plays
+end_of _ ended o plays whole = absurd plays
 
 judged_whole : (ended : Bool) (o : Outcome) → ended ≡ true → IsJudgedWhole ended o
 judged_whole ended (Usage word) whole = tt
@@ -266,28 +184,14 @@ did_play s k wanted source_old source_new out_old out_new script o plays read mo
 
 shot_refused : (bytes : List ℕ) (o : Outcome) → RefusedScript bytes o → RefusedShot bytes o
 shot_refused bytes NoPicture refused = absurd refused
-shot_refused bytes Done refused = refused
-shot_refused bytes (Usage word) refused = refused
-shot_refused bytes Json refused = refused
-shot_refused bytes (Shape fault) refused = refused
-shot_refused bytes (Script frame command why) refused = refused
-shot_refused bytes ReadFault refused = refused
-shot_refused bytes WriteFault refused = refused
-shot_refused bytes (TooLong limit) refused = refused
-shot_refused bytes (BadRecording place) refused = refused
-shot_refused bytes (No event) refused = refused
-shot_refused bytes Memory refused = refused
+shot_refused bytes _ refused = refused
 
 refused_of : (wanted : Use) (bytes : List ℕ) (o : Outcome) → PlaysScript wanted → RefusedScript bytes o → Refused wanted bytes o
 refused_of (Step workers) bytes o plays refused = refused
 refused_of (Play workers) bytes o plays refused = refused
 refused_of (Film workers) bytes o plays refused = refused
 refused_of (Shot workers) bytes o plays refused = shot_refused bytes o refused
-refused_of (Gen number) bytes o plays refused = absurd plays
-refused_of (Demo number) bytes o plays refused = absurd plays
-refused_of Frames bytes o plays refused = absurd plays
-refused_of Check bytes o plays refused = absurd plays
-refused_of (Serve workers) bytes o plays refused = absurd plays
+refused_of _ bytes o plays refused = absurd plays
 
 unread : (wanted : Use) (bytes : List ℕ) (o : Outcome) → PlaysScript wanted → IsStopped o → IsNoneOf bytes o → CauseOf wanted bytes o
 unread wanted bytes Done plays stopped none = absurd stopped
@@ -320,28 +224,17 @@ stopped_cause a b c d _ stopped cause = tt
 
 all_answers : (o : Outcome) → AnswersScript o → AnswersShot o
 all_answers NoPicture answers = tt
-all_answers Done answers = answers
-all_answers Json answers = answers
-all_answers (Shape fault) answers = answers
-all_answers (Script frame command why) answers = answers
-all_answers ReadFault answers = answers
-all_answers WriteFault answers = answers
-all_answers (TooLong limit) answers = answers
-all_answers Memory answers = answers
 all_answers (Usage word) answers = absurd answers
 all_answers (BadRecording place) answers = absurd answers
 all_answers (No event) answers = absurd answers
+all_answers _ answers = answers
 
 stopped_answers : (wanted : Use) (o : Outcome) → PlaysScript wanted → AnswersScript o → MayAnswer wanted o
 stopped_answers (Step workers) o plays answers = answers
 stopped_answers (Play workers) o plays answers = answers
 stopped_answers (Film workers) o plays answers = answers
 stopped_answers (Shot workers) o plays answers = all_answers o answers
-stopped_answers (Gen number) o plays answers = absurd plays
-stopped_answers (Demo number) o plays answers = absurd plays
-stopped_answers Frames o plays answers = absurd plays
-stopped_answers Check o plays answers = absurd plays
-stopped_answers (Serve workers) o plays answers = absurd plays
+stopped_answers _ o plays answers = absurd plays
 
 pub did_stop : {S K P : Type 0} (s : reading.Ghosts S) (k : writing.Ghosts K P) (wanted : Use) (source_old source_new : S) (out : K) (o : Outcome)
     → PlaysScript wanted → IsNoneOf (bytes_given s source_old source_new) o × IsJudgedWhole (s.has_ended source_new) o × IsStopped o → GivenAtMost (script_limit + 1) (s.given source_old) (s.given source_new)

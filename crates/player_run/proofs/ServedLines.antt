@@ -10,7 +10,7 @@ use Rattle.model_history.specs.Accepted.{IsAccepted}
 use Rattle.model_history.specs.Scripts.{ScriptModel}
 use Rattle.script_json.specs.Causes.{IsScriptText}
 use Rattle.player_uses.specs.declared.outcome.Outcome.{Outcome}
-use Rattle.player_uses.specs.declared.outcome.Outcome.TheVariants.{Done, Usage, Json, Shape, Script, ReadFault, WriteFault, TooLong, BadRecording, No, Memory, NoPicture}
+use Rattle.player_uses.specs.declared.outcome.Outcome.TheVariants.{Done, Json, Shape, Script, WriteFault, TooLong, Memory}
 use Rattle.player_uses.specs.declared.words.Use.TheVariants.{Step}
 use Rattle.player_uses.specs.Outputs.{WritesSome}
 use Rattle.player_uses.specs.Scripts.{IsNone}
@@ -29,18 +29,12 @@ abbrev IsTold : ℕ → List ℕ → Outcome → Type 0
 IsTold workers line result = EndsLine result × CauseOf (Step workers) line result × Writes (Step workers) line (Some []) (Some []) result
 
 pub none_told : (workers : ℕ) (line : List ℕ) (result : Outcome) → IsNone line result → IsTold workers line result
-none_told workers line Done none = absurd none
-none_told workers line (Usage word) none = absurd none
 none_told workers line Json none = (tt, none, refl)
 none_told workers line (Shape fault) none = (tt, none, refl)
 none_told workers line (Script frame command why) none = (tt, none, refl)
-none_told workers line ReadFault none = absurd none
-none_told workers line WriteFault none = absurd none
 none_told workers line (TooLong limit) none = (tt, none, refl)
-none_told workers line (BadRecording place) none = absurd none
-none_told workers line (No event) none = absurd none
-none_told workers line NoPicture none = absurd none
 none_told workers line Memory none = (tt, tt, inl refl)
+none_told workers line _ none = absurd none
 
 pub told_answer : {X E : Type 0} (workers number : ℕ) (line : List ℕ) (result : Outcome) (old new : Option (List Act)) (r : Result X E)
     → IsTold workers line result → Said old new (verdict number result) r → Answered (IsLineAnswer workers number line) old new r
@@ -87,15 +81,7 @@ part_done workers line s h torn mid Memory is quiet (inl same) =
     nothing h new quiet same =
         let old = quiet_told h quiet in
         subst (λ (x : Option (List ℕ)). Appends (told false (Some h)) x []) (sym (same ∙ old)) (subst (λ (x : Option (List ℕ)). Appends x (Some (quote h [])) []) (sym old) (kept (quote h [])))
-part_done workers line s h torn mid (Usage word) is quiet wrote = absurd wrote
-part_done workers line s h torn mid Json is quiet wrote = absurd wrote
-part_done workers line s h torn mid (Shape fault) is quiet wrote = absurd wrote
-part_done workers line s h torn mid (Script frame command why) is quiet wrote = absurd wrote
-part_done workers line s h torn mid ReadFault is quiet wrote = absurd wrote
-part_done workers line s h torn mid (TooLong limit) is quiet wrote = absurd wrote
-part_done workers line s h torn mid (BadRecording place) is quiet wrote = absurd wrote
-part_done workers line s h torn mid (No event) is quiet wrote = absurd wrote
-part_done workers line s h torn mid NoPicture is quiet wrote = absurd wrote
+part_done workers line s h torn mid _ is quiet wrote = absurd wrote
 
 -- what a line may have of data
 moved : (workers : ℕ) (line front : List ℕ) (pieces : List (List ℕ)) (result : Outcome) → joined pieces ≡ front
@@ -157,15 +143,7 @@ finished workers number line s (Some h) mid new Done r is not wrote said =
 finished workers number line s (Some h) mid new Memory r is not wrote said =
     λ quiet. said_on workers number line Memory h mid new r tt tt (part_done workers line s h false mid Memory is quiet wrote) said
 finished workers number line s (Some h) mid new WriteFault r is not wrote said = absurd (false≢true (sym not))
-finished workers number line s (Some h) mid new (Usage word) r is not wrote said = absurd wrote
-finished workers number line s (Some h) mid new Json r is not wrote said = absurd wrote
-finished workers number line s (Some h) mid new (Shape fault) r is not wrote said = absurd wrote
-finished workers number line s (Some h) mid new (Script frame command why) r is not wrote said = absurd wrote
-finished workers number line s (Some h) mid new ReadFault r is not wrote said = absurd wrote
-finished workers number line s (Some h) mid new (TooLong limit) r is not wrote said = absurd wrote
-finished workers number line s (Some h) mid new (BadRecording place) r is not wrote said = absurd wrote
-finished workers number line s (Some h) mid new (No event) r is not wrote said = absurd wrote
-finished workers number line s (Some h) mid new NoPicture r is not wrote said = absurd wrote
+finished workers number line s (Some h) mid new _ r is not wrote said = absurd wrote
 
 -- ---- the same, as the code knows it
 
