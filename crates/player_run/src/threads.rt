@@ -8,7 +8,7 @@ ghost use Rattle.proxy_threads.specs.Seats.{Of};
 ghost use Rattle.proxy_threads.specs.MainTurns.{MainIsReady};
 ghost use Rattle.proxy_threads.specs.WorkTurns.{WorkIsReady};
 ghost use Rattle.player_uses.specs.Faults.{Causes};
-ghost use Rattle.player_run.specs.inner.Actors.{HasRun, IsFirst, PlayEnds};
+ghost use Rattle.player_run.specs.inner.Actors.{HasRun, IsFirst, IsReady, PlayEnds};
 
 use crate::beside::{Remains, join_outcomes, run_beside, take_back};
 use crate::crew::Crew;
@@ -24,6 +24,16 @@ use std::thread::{Scope, Threads};
 use thread_bell::Bell;
 use thread_lock::{Pass, TurnLock};
 use thread_pieces::{Presenter, RingSink};
+
+/// Those who take turns at a run, before their first, and the two ends of its ring.
+#[derive(Drop)]
+struct Staff<'g, G: Gate> {
+    // The compositor's pass.
+    pass: Pass<Core>,
+    main: MainActor,
+    workers: Vec<RasterActor<'g, G>>,
+    ends: (RingSink, Presenter),
+}
 
 // The turns of the main side.
 fn work_main<R: Wait>(rt: &R, lock: &TurnLock<Core>, bell: &Bell, main: MainActor)
@@ -80,21 +90,20 @@ fn run_started<'s, E, R: Threads + Wait + Sync, G: Gate + Sync, K: Sink + Send>(
     alloc: Global,
     lock: &'s TurnLock<Core>,
     bell: &'s Bell,
-    pass: Pass<Core>,
-    main: MainActor,
-    workers: Vec<RasterActor<'s, G>>,
-    ends: (RingSink, Presenter),
+    staff: Staff<'s, G>,
     out: &mut K,
 ) -> Option<Remains>
-    requires first { IsFirst lock.now.id pass }
-    requires main { Of main.pass (MainIsReady lock.now.id main.host) }
-    requires workers { All (λ worker. Of worker.pass (WorkIsReady lock.now.id worker.worker)) workers.items }
-    requires ring { OneRing ends.0 ends.1 }
-    requires none { bytes_taken ends.1 ≡ [] }
-    ensures ran { MatchOption result (out.new ≡ out.old) (λ ran. HasRun pass (whole ends.0) ran (K.held out.old) (K.held out.new)) }
+    requires { IsReady lock.now.id staff }
+    ensures ran { MatchOption result (out.new ≡ out.old) (λ ran. HasRun staff.entry.pass (whole staff.entry.ends.0) ran (K.held out.old) (K.held out.new)) }
     ensures grows { K.faults out.old ≤ K.faults out.new }
     ensures cause { IfSome result (λ ran. WriteCause (K.faults out.old) (K.faults out.new) ran.served) }
 {
+    let Staff {
+        pass,
+        main,
+        workers,
+        ends,
+    } = staff;
     let most = workers.len();
     if !start(scope, rt, lock, bell, main, workers) {
         bell.close();
@@ -111,22 +120,15 @@ fn run_scope<'g, R: Threads + Wait + Sync, G: Gate + Sync, K: Sink + Send>(
     rt: &R,
     alloc: Global,
     lock: &TurnLock<Core>,
-    pass: Pass<Core>,
-    main: MainActor,
-    workers: Vec<RasterActor<'g, G>>,
-    ends: (RingSink, Presenter),
+    staff: Staff<'g, G>,
     out: &mut K,
 ) -> Option<Remains>
-    requires first { IsFirst lock.now.id pass }
-    requires main { Of main.pass (MainIsReady lock.now.id main.host) }
-    requires workers { All (λ worker. Of worker.pass (WorkIsReady lock.now.id worker.worker)) workers.items }
-    requires ring { OneRing ends.0 ends.1 }
-    requires none { bytes_taken ends.1 ≡ [] }
-    ensures ran { MatchOption result (out.new ≡ out.old) (λ ran. HasRun pass (whole ends.0) ran (K.held out.old) (K.held out.new)) }
+    requires { IsReady lock.now.id staff }
+    ensures ran { MatchOption result (out.new ≡ out.old) (λ ran. HasRun staff.entry.pass (whole staff.entry.ends.0) ran (K.held out.old) (K.held out.new)) }
     ensures grows { K.faults out.old ≤ K.faults out.new }
     ensures cause { IfSome result (λ ran. WriteCause (K.faults out.old) (K.faults out.new) ran.served) }
 {
-    let Ok(bell) = ends.0.bell() else {
+    let Ok(bell) = staff.ends.0.bell() else {
         return None;
     };
     let bell = &*bell;
@@ -134,17 +136,13 @@ fn run_scope<'g, R: Threads + Wait + Sync, G: Gate + Sync, K: Sink + Send>(
         thread::scope_env(),
         rt,
         move |scope| -> (&mut K, Option<Remains>)
-            requires first { IsFirst lock.now.id pass }
-            requires main { Of main.pass (MainIsReady lock.now.id main.host) }
-            requires workers { All (λ worker. Of worker.pass (WorkIsReady lock.now.id worker.worker)) workers.items }
-            requires ring { OneRing ends.0 ends.1 }
-            requires none { bytes_taken ends.1 ≡ [] }
+            requires { IsReady lock.now.id staff }
             ensures same_reference { result.0.ghost_name ≡ out.entry.ghost_name }
-            ensures ran { MatchOption result.1 (result.0.now ≡ out.entry.now) (λ ran. HasRun pass (whole ends.0) ran (K.held out.entry.now) (K.held result.0.now)) }
+            ensures ran { MatchOption result.1 (result.0.now ≡ out.entry.now) (λ ran. HasRun staff.entry.pass (whole staff.entry.ends.0) ran (K.held out.entry.now) (K.held result.0.now)) }
             ensures grows { K.faults out.entry.now ≤ K.faults result.0.now }
             ensures cause { IfSome result.1 (λ ran. WriteCause (K.faults out.entry.now) (K.faults result.0.now) ran.served) }
         {
-            let ran = run_started(scope, rt, alloc, lock, bell, pass, main, workers, ends, out);
+            let ran = run_started(scope, rt, alloc, lock, bell, staff, out);
             (out, ran)
         },
     );
@@ -177,6 +175,12 @@ pub(crate) fn run_crew<'g, R: Threads + Wait + Sync, G: Gate + Sync, K: Sink + S
         workers,
     } = crew;
     let most = workers.len();
-    let ran = run_scope(rt, alloc, &lock, pass, main, workers, ends, out)?;
+    let staff = Staff {
+        pass,
+        main,
+        workers,
+        ends,
+    };
+    let ran = run_scope(rt, alloc, &lock, staff, out)?;
     Some(join_outcomes(rt, alloc, ran, most, out))
 }

@@ -1,5 +1,5 @@
 -- What the actors of a run left.
-use Rattle.std.specs.Prelude.{◌≡◌, ℕ, Bool, true, false, ◌&&◌, cond, List, [], ◌++◌, Option, Some, Result, Ok, Err}
+use Rattle.std.specs.Prelude.{◌≡◌, ℕ, Bool, true, false, ◌&&◌, cond, All, List, [], ◌++◌, Option, Some, Result, Ok, Err}
 use Rattle.std.specs.Io.KnownBytes.{Appends}
 use Rattle.atomic_table.specs.Seated.{TableId}
 use Rattle.byte_io.specs.Pieces.{GainsPrefix, PutsAll}
@@ -9,13 +9,16 @@ use Rattle.model_history.specs.Legal.{Legal}
 use Rattle.impl_log.specs.Runs.{Run, past}
 use Rattle.impl_core.specs.Origins.{Origin, origin_of}
 use Rattle.impl_core.specs.Replies.{is_played}
-use Rattle.proxy_threads.specs.Seats.{Seat, pairs}
+use Rattle.proxy_threads.specs.MainTurns.{MainIsReady}
+use Rattle.proxy_threads.specs.Seats.{Of, Seat, pairs}
+use Rattle.proxy_threads.specs.WorkTurns.{WorkIsReady}
 use Rattle.proxy_threads.specs.Writing.{part, Driven, FaultCause, KnowsEnd}
 use Rattle.proxy_threads.specs.declared.turned.Turned.{Turned}
 use Rattle.proxy_threads.specs.declared.turned.Turned.TheVariants as turned
 use Rattle.player_uses.specs.Outcomes.{fault_outcome}
 use Rattle.player_run.specs.declared.beside.Ending.{Ending}
 use Rattle.player_run.specs.declared.beside.Remains.{Remains}
+use Rattle.player_run.specs.declared.threads.Staff.{Staff}
 use Rattle.player_uses.specs.declared.outcome.Outcome.{Outcome}
 use Rattle.player_uses.specs.declared.outcome.Outcome.TheVariants.{Done, WriteFault, Memory}
 
@@ -24,6 +27,14 @@ pub record IsFirst (id : TableId) (p : Seat) : Type 0 where
   pub lock : p.lock ≡ id
   pub actor : p.actor ≡ 0
   pub fresh : p.mine ≡ []
+
+-- all have their passes of this lock, have entered nothing and wait for their first turns; the ring is one, and nothing was taken from it
+pub record IsReady {G : Type 0} (id : TableId) (staff : Staff G) : Type 0 where
+  pub first : IsFirst id staff.pass
+  pub main : Of staff.main.pass (MainIsReady id staff.main.host)
+  pub workers : All (λ worker. Of worker.pass (WorkIsReady id worker.worker)) staff.workers.items
+  pub ring : OneRing staff.ends.0 staff.ends.1
+  pub none : bytes_taken staff.ends.1 ≡ []
 
 -- a pass of another actor, made of this one, with which it has entered nothing
 pub record IsSplitOf (p : Seat) (number : ℕ) (q : Seat) : Type 0 where
