@@ -21,7 +21,7 @@ use Rattle.page_layers.specs.Sound.{AreDistinctLayers}
 use Rattle.page_layers.specs.declared.moves.Move.{Move}
 use Rattle.model_history.specs.declared.history.Entry.{Entry}
 use Rattle.model_history.specs.Scripts.{ScriptModel}
-use Rattle.model_history.specs.Accepted.{IsAccepted}
+use Rattle.model_history.specs.Accepted.{IsPlayable}
 use Rattle.model_history.specs.Legal.{Legal}
 use Rattle.model_history.specs.Frames.{page, pulls_of, active, pending, up_to}
 use Rattle.model_history.specs.Tiles.{Tree, active_tree, pending_tree, keys_of, visible_in, live_keys, made_so_far, ready, in_flight, pinned}
@@ -46,7 +46,7 @@ use Rattle.impl_choice.proofs.VisibleRanks.{shown_in_tree, shown_least}
 
 -- ---- the pages of a run
 
-layers_distinct : (s : ScriptModel) → IsAccepted s → (ps : ℕ → List Move) (n : ℕ) → AreDistinctLayers (page s ps n).layers
+layers_distinct : (s : ScriptModel) → IsPlayable s → (ps : ℕ → List Move) (n : ℕ) → AreDistinctLayers (page s ps n).layers
 layers_distinct s acc ps n = subst (λ (p : Page). AreDistinctLayers p.layers) (sym (page_values s ps no_pulls n)) (plain_page s acc n).distinct
 
 -- ---- ranks of keys that are apart
@@ -186,7 +186,7 @@ module _ (s : ScriptModel) (a p : Tree) (da : AreDistinctLayers a.page.layers) (
 
 -- ---- at a past
 
-module _ (s : ScriptModel) (acc : IsAccepted s) (h : List Entry) where
+module _ (s : ScriptModel) (acc : IsPlayable s) (h : List Entry) where
   abbrev a : Tree
   a = active_tree s h
 

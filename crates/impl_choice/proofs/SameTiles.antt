@@ -5,7 +5,7 @@ use Rattle.model_history.specs.declared.event.Event.{Event}
 use Rattle.model_history.specs.declared.event.Event.TheVariants as event
 use Rattle.model_history.specs.declared.history.Entry.{Entry}
 use Rattle.model_history.specs.Scripts.{ScriptModel}
-use Rattle.model_history.specs.Accepted.{IsAccepted}
+use Rattle.model_history.specs.Accepted.{IsPlayable}
 use Rattle.model_history.specs.Legal.{Legal}
 use Rattle.model_steps.specs.Events.{commit}
 use Rattle.model_steps.proofs.ReadyAfter.{commit_ready}
@@ -26,7 +26,7 @@ by_event s h a e t = record { ready = λ q. refl; in_flight = λ q. refl; pinned
 pub same_tiles : (s : ScriptModel) (h : List Entry) (e : Entry) → leaves_tiles e.event ≡ true → HaveSameTiles s h (e ∷ h)
 same_tiles s h e t = by_event s h e.actor e.event t
 
-pub same_after_commit : (s : ScriptModel) (n : ℕ) (h : List Entry) (a k : ℕ) → IsAccepted s → Legal s n (commit a k ∷ h) → HaveSameTiles s h (commit a k ∷ h)
+pub same_after_commit : (s : ScriptModel) (n : ℕ) (h : List Entry) (a k : ℕ) → IsPlayable s → Legal s n (commit a k ∷ h) → HaveSameTiles s h (commit a k ∷ h)
 same_after_commit s n h a k acc legal = record {
   ready = λ q. ap (λ ks. has_key ks q) (commit_ready s n h a k acc legal);
   in_flight = λ q. refl;

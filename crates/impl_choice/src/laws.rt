@@ -4,7 +4,7 @@
 ghost use Rattle.std.specs.Prelude.{◌≡◌, ℕ, true, List, ◌∷◌};
 ghost use Rattle.model_history.specs.declared.history.Entry.{Entry};
 ghost use Rattle.model_history.specs.Scripts.{ScriptModel};
-ghost use Rattle.model_history.specs.Accepted.{IsAccepted};
+ghost use Rattle.model_history.specs.Accepted.{IsPlayable};
 ghost use Rattle.model_history.specs.Legal.{Legal};
 ghost use Rattle.model_steps.specs.Events.{commit};
 ghost use Rattle.impl_tiles.specs.Managers.{HaveSameTiles};
@@ -18,5 +18,5 @@ pub fn most_events_keep_the_tiles()
 
 /// So does a commit: a tile of its tree that is ready was ready before.
 pub fn commits_keep_the_tiles()
-    ensures { (s : ScriptModel) (workers : ℕ) (h : List Entry) (actor k : ℕ) → IsAccepted s → Legal s workers (commit actor k ∷ h) → HaveSameTiles s h (commit actor k ∷ h) }
+    ensures { (s : ScriptModel) (workers : ℕ) (h : List Entry) (actor k : ℕ) → IsPlayable s → Legal s workers (commit actor k ∷ h) → HaveSameTiles s h (commit actor k ∷ h) }
 {}

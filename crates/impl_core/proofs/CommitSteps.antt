@@ -4,7 +4,7 @@ use Rattle.model_states.specs.declared.kind.Kind.TheVariants as kind
 use Rattle.model_history.specs.declared.event.Event.TheVariants as event
 use Rattle.model_history.specs.declared.history.Entry.{Entry}
 use Rattle.model_history.specs.Scripts.{ScriptModel}
-use Rattle.model_history.specs.Accepted.{IsAccepted}
+use Rattle.model_history.specs.Accepted.{IsPlayable}
 use Rattle.model_history.specs.Frames.{pulls_of, pending}
 use Rattle.model_history.specs.Legal.{Legal, can}
 use Rattle.model_history.proofs.DueFacts.{AtCommit, at_commit}
@@ -22,7 +22,7 @@ pub record OfCommit (s : ScriptModel) (workers : ℕ) (h : List Entry) (k : ℕ)
   pub same : HaveSameTiles s h (commit 0 k ∷ h)
   pub none : pending h ≡ None
 
-pub of_commit : (s : ScriptModel) (workers : ℕ) (h : List Entry) (k : ℕ) (kept : Kept) → IsAccepted s → Legal s workers h → IsCore s h kept → can s h kind.Commit 0 ≡ Some (event.Commit k) → OfCommit s workers h k kept
+pub of_commit : (s : ScriptModel) (workers : ℕ) (h : List Entry) (k : ℕ) (kept : Kept) → IsPlayable s → Legal s workers h → IsCore s h kept → can s h kind.Commit 0 ≡ Some (event.Commit k) → OfCommit s workers h k kept
 of_commit s workers h k kept accepted legal core may_come =
     let next : Legal s workers (commit 0 k ∷ h) = comes_next s workers h 0 (event.Commit k) legal may_come refl (omega arith) in
     let at : AtCommit h k = at_commit s workers h 0 k next.1 in

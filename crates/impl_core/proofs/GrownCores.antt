@@ -16,7 +16,7 @@ use Rattle.page_layers.specs.Pages.{Page}
 use Rattle.model_history.specs.declared.input.Input.{Input}
 use Rattle.model_history.specs.declared.history.Entry.{Entry}
 use Rattle.model_history.specs.Scripts.{ScriptModel}
-use Rattle.model_history.specs.Accepted.{IsAccepted}
+use Rattle.model_history.specs.Accepted.{IsPlayable}
 use Rattle.model_history.specs.EventFields.{answers}
 use Rattle.model_history.specs.Scans.{counted}
 use Rattle.model_history.specs.Frames.{pulls_of, active, pending, up_to, active_page}
@@ -53,7 +53,7 @@ ready_not_sent main_state.Sent h = cc
 ready_not_sent main_state.ReadyToCommit h = refl
 
 -- a script that is another in what the past has not read
-module _ (s : ScriptModel) (n : ℕ) (h : List Entry) (main : List (List Command)) (inputs : List Input) (legal : Legal s n h) (tells : TellsAlike s (with_main_and_inputs s main inputs) h) (accepted : IsAccepted (with_main_and_inputs s main inputs)) where
+module _ (s : ScriptModel) (n : ℕ) (h : List Entry) (main : List (List Command)) (inputs : List Input) (legal : Legal s n h) (tells : TellsAlike s (with_main_and_inputs s main inputs) h) (playable : IsPlayable (with_main_and_inputs s main inputs)) where
   abbrev t : ScriptModel
   t = with_main_and_inputs s main inputs
 
@@ -108,8 +108,8 @@ module _ (s : ScriptModel) (n : ℕ) (h : List Entry) (main : List (List Command
       by_tree (or_either (has_key (keys_of (active_tree s h)) q) (has_key (keys_of (pending_tree s h)) q) (sym (has_append (keys_of (active_tree s h)) (keys_of (pending_tree s h)) q) ∙ live))
     where
       by_tree : (has_key (keys_of (active_tree s h)) q ≡ true) ⊎ (has_key (keys_of (pending_tree s h)) q ≡ true) → KeyShows t q i.rect i.list
-      by_tree (inl a) = still_shows s t (pulls_of h) (up_to (active h)) q i.rect i.list accepted (tells.pages (up_to (active h)) to_active) (tells.stamps (up_to (active h)) to_active) a shows
-      by_tree (inr p) = still_shows s t (pulls_of h) (up_to (pending h)) q i.rect i.list accepted (tells.pages (up_to (pending h)) to_pending) (tells.stamps (up_to (pending h)) to_pending) p shows
+      by_tree (inl a) = still_shows s t (pulls_of h) (up_to (active h)) q i.rect i.list playable (tells.pages (up_to (active h)) to_active) (tells.stamps (up_to (active h)) to_active) a shows
+      by_tree (inr p) = still_shows s t (pulls_of h) (up_to (pending h)) q i.rect i.list playable (tells.pages (up_to (pending h)) to_pending) (tells.stamps (up_to (pending h)) to_pending) p shows
 
   is_there : (o : Option Image) (i : Image) → o ≡ Some i → is_some o ≡ true
   is_there o i e = ap is_some e
@@ -172,24 +172,24 @@ grown (Err e) old new t kept ok err before after = subst (λ (z : Run). KeepsFor
 
 -- the run of the script with these main frames and inputs, which say the same as far as it has read them
 read_alike : (old : Run) (main : List (List Command)) (inputs : List Input) (kept : Kept) → Legal old.script old.workers (past old) → has_looked_ahead (past old) ≡ false
-    → IsAccepted (with_main_and_inputs old.script main inputs) → ReadsAlike old.script (past old) main inputs → KeepsFor kept old.script old → KeepsFor kept (with_main_and_inputs old.script main inputs) old
-read_alike old main inputs kept legal looked accepted reads before =
-    core_still old.script old.workers (past old) main inputs legal (tells_alike old.script old.workers (past old) main inputs legal looked reads) accepted kept before
+    → IsPlayable (with_main_and_inputs old.script main inputs) → ReadsAlike old.script (past old) main inputs → KeepsFor kept old.script old → KeepsFor kept (with_main_and_inputs old.script main inputs) old
+read_alike old main inputs kept legal looked playable reads before =
+    core_still old.script old.workers (past old) main inputs legal (tells_alike old.script old.workers (past old) main inputs legal looked reads) playable kept before
 
 pub grown_by_input : {X E : Type 0} (r : Result X E) (old new : Run) (x : Input) (kept : Kept) → OnOk r (new ≡ with_script old (with_input old.script x)) → OnErr r (new ≡ old)
-    → Legal old.script old.workers (past old) → has_looked_ahead (past old) ≡ false → IsAccepted (with_input old.script x) → KeepsFor kept old.script old → KeepsFor kept new.script new
-grown_by_input r old new x kept ok err legal looked accepted before =
+    → Legal old.script old.workers (past old) → has_looked_ahead (past old) ≡ false → IsPlayable (with_input old.script x) → KeepsFor kept old.script old → KeepsFor kept new.script new
+grown_by_input r old new x kept ok err legal looked playable before =
     grown r old new (with_input old.script x) kept ok err before
-    (read_alike old old.script.main (old.script.inputs ++ x ∷ []) kept legal looked accepted (reads_input old.script old.workers (past old) x legal) before)
+    (read_alike old old.script.main (old.script.inputs ++ x ∷ []) kept legal looked playable (reads_input old.script old.workers (past old) x legal) before)
 
 pub grown_by_main_frame : {X E : Type 0} (r : Result X E) (old new : Run) (kept : Kept) → OnOk r (new ≡ with_script old (with_main_frame old.script)) → OnErr r (new ≡ old)
-    → Legal old.script old.workers (past old) → has_looked_ahead (past old) ≡ false → IsAccepted (with_main_frame old.script) → KeepsFor kept old.script old → KeepsFor kept new.script new
-grown_by_main_frame r old new kept ok err legal looked accepted before =
+    → Legal old.script old.workers (past old) → has_looked_ahead (past old) ≡ false → IsPlayable (with_main_frame old.script) → KeepsFor kept old.script old → KeepsFor kept new.script new
+grown_by_main_frame r old new kept ok err legal looked playable before =
     grown r old new (with_main_frame old.script) kept ok err before
-    (read_alike old (old.script.main ++ [] ∷ []) old.script.inputs kept legal looked accepted (reads_main_frame old.script old.workers (past old) legal) before)
+    (read_alike old (old.script.main ++ [] ∷ []) old.script.inputs kept legal looked playable (reads_main_frame old.script old.workers (past old) legal) before)
 
 pub grown_by_commands : {X E : Type 0} (r : Result X E) (old new : Run) (cs : List Command) (kept : Kept) → OnOk r (new ≡ with_script old (with_commands old.script cs)) → OnErr r (new ≡ old)
-    → Legal old.script old.workers (past old) → has_looked_ahead (past old) ≡ false → is_sent (sched (past old)).main_state ≡ true → IsAccepted (with_commands old.script cs) → KeepsFor kept old.script old → KeepsFor kept new.script new
-grown_by_commands r old new cs kept ok err legal looked sent accepted before =
+    → Legal old.script old.workers (past old) → has_looked_ahead (past old) ≡ false → is_sent (sched (past old)).main_state ≡ true → IsPlayable (with_commands old.script cs) → KeepsFor kept old.script old → KeepsFor kept new.script new
+grown_by_commands r old new cs kept ok err legal looked sent playable before =
     grown r old new (with_commands old.script cs) kept ok err before
-    (read_alike old (with_last cs old.script.main) old.script.inputs kept legal looked accepted (reads_commands old.script old.workers (past old) cs legal (one_waits old.script old.workers (past old) legal sent)) before)
+    (read_alike old (with_last cs old.script.main) old.script.inputs kept legal looked playable (reads_commands old.script old.workers (past old) cs legal (one_waits old.script old.workers (past old) legal sent)) before)

@@ -4,7 +4,7 @@ ghost use Rattle.std.specs.Prelude.{◌≡◌, ℕ, List, ◌∷◌, Some, None,
 ghost use Rattle.model_states.specs.declared.kind.Kind.TheVariants as kind;
 ghost use Rattle.model_history.specs.declared.event.Event.TheVariants as event;
 ghost use Rattle.model_history.specs.declared.history.Entry.{Entry};
-ghost use Rattle.model_history.specs.Accepted.{IsAccepted};
+ghost use Rattle.model_history.specs.Accepted.{IsPlayable};
 ghost use Rattle.model_history.specs.Frames.{pulls_of};
 ghost use Rattle.model_history.specs.Legal.{Legal};
 ghost use Rattle.model_steps.specs.Events.{commit};
@@ -33,7 +33,7 @@ fn push_prepared(
     prepared: &Option<Handed>,
 ) -> Result<Standing, AllocError>
     requires { PushesNow script.now host.old frame prepared.now }
-    ensures hosts { OnOk result ((workers : ℕ) (h : List Entry) (actor : ℕ) → IsAccepted script.now → Legal script.now workers (commit actor frame ∷ h) → Hosts script.now h host.old → IsPrepared script.now (pulls_of h) frame prepared.now → Hosts script.now (commit actor frame ∷ h) host.new) }
+    ensures hosts { OnOk result ((workers : ℕ) (h : List Entry) (actor : ℕ) → IsPlayable script.now → Legal script.now workers (commit actor frame ∷ h) → Hosts script.now h host.old → IsPrepared script.now (pulls_of h) frame prepared.now → Hosts script.now (commit actor frame ∷ h) host.new) }
     ensures before { IfOk result (λ standing. standing ≡ host.old.standing) }
     ensures active { OnOk result (host.new.trees.active ≡ host.old.trees.active) }
     ensures pending { OnOk result (IsSome host.new.trees.pending) }

@@ -3,7 +3,7 @@
 ghost use Rattle.std.specs.Prelude.{◌≡◌, ◌-◌, ◌≤◌, length, IfOk, not, ◌&&◌, option_map};
 ghost use Rattle.model_states.specs.Kinds.{is_main_idle};
 ghost use Rattle.page_layers.specs.Axes.{across, down};
-ghost use Rattle.model_history.specs.Accepted.{IsAccepted};
+ghost use Rattle.model_history.specs.Accepted.{IsPlayable};
 ghost use Rattle.model_history.specs.Frames as frames;
 ghost use Rattle.model_history.specs.Legal as legal;
 ghost use Rattle.model_history.specs.Ranking.{rank_to_start};
@@ -140,10 +140,10 @@ impl Core {
         self.log.forget();
     }
 
-    /// The history is legal and the script is accepted. A law that does nothing when it runs.
+    /// The history is legal and the script can be played. A law that does nothing when it runs.
     pub fn is_legal(&self)
         ensures legal { legal.Legal self.now.script self.now.workers (past self.now) }
-        ensures accepted { IsAccepted self.now.script }
+        ensures playable { IsPlayable self.now.script }
     {
         self.log.is_legal();
     }

@@ -11,7 +11,7 @@ use Rattle.page_layers.specs.Refusals.{has_layer}
 use Rattle.tile_visible.specs.Visible.{grid_of}
 use Rattle.model_history.specs.declared.history.Entry.{Entry}
 use Rattle.model_history.specs.Scripts.{ScriptModel}
-use Rattle.model_history.specs.Accepted.{IsAccepted}
+use Rattle.model_history.specs.Accepted.{IsPlayable}
 use Rattle.model_history.specs.Frames.{page, pulls_of, active, pending, up_to}
 use Rattle.model_history.specs.Legal.{Legal}
 use Rattle.model_history.specs.Stamps.{commits_to}
@@ -54,7 +54,7 @@ stamped_there s ps (Some k) (Some t) is = is.stamps
 
 module _ (s : ScriptModel) (workers : ℕ) (h : List Entry) (actor k : ℕ) (legal : Legal s workers (commit actor k ∷ h)) (m : Option TreeModel) (is : IsTreeAt s (pulls_of h) (active h) m)
     (p : Page) (d : Changed) (cs : List Command) (made : IsMadeBy s h k p d cs) where
-  pub may_follow : IsAccepted s → MayFollow m p d
+  pub may_follow : IsPlayable s → MayFollow m p d
   may_follow accepted = record {
     sizes = λ id there out.
         size_there s (pulls_of h) (active h) m is id

@@ -15,7 +15,7 @@ use Rattle.page_layers.specs.declared.moves.Move.{Move}
 use Rattle.tile_visible.specs.Visible.{grid_of}
 use Rattle.model_history.specs.Scripts.{ScriptModel}
 use Rattle.model_history.specs.Frames.{page}
-use Rattle.model_history.specs.Accepted.{IsAccepted}
+use Rattle.model_history.specs.Accepted.{IsPlayable}
 use Rattle.model_history.specs.Stamps.{place_rect, stamp_in}
 use Rattle.model_history.specs.Sharing.{has_page_key, key_rect}
 use Rattle.model_history.specs.Ranking.{place_named}
@@ -68,7 +68,7 @@ placed g q h = among (λ (p : Place). has g p ≡ true) q (places g) (each_place
 
 -- the job of a key
 
-module _ (s : ScriptModel) (ps : ℕ → List Move) (n : ℕ) (q : TileKey) (acc : IsAccepted s) (has_it : has_page_key s ps n q ≡ true) where
+module _ (s : ScriptModel) (ps : ℕ → List Move) (n : ℕ) (q : TileKey) (acc : IsPlayable s) (has_it : has_page_key s ps n q ≡ true) where
   abbrev shown : Page
   shown = page s ps n
 

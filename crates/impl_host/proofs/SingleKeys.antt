@@ -9,7 +9,7 @@ use Rattle.tile_raster.specs.declared.job.Job.{Job}
 use Rattle.page_layers.specs.Pages.{Page}
 use Rattle.model_history.specs.declared.history.Entry.{Entry}
 use Rattle.model_history.specs.Scripts.{ScriptModel}
-use Rattle.model_history.specs.Accepted.{IsAccepted}
+use Rattle.model_history.specs.Accepted.{IsPlayable}
 use Rattle.model_history.specs.Frames.{pulls_of}
 use Rattle.model_history.specs.Ranking.{ready_tile}
 use Rattle.model_history.specs.Tiles.{live_keys}
@@ -30,14 +30,14 @@ some_job None made e = cc
 some_job (Some j) made e = refl
 
 -- the page that has a live key has its job
-pub live_job : (s : ScriptModel) (h : List Entry) (q : TileKey) (p : Page) (job : Option Job) → IsAccepted s → HasLivePage s h q (Some p) → option_map made_by job ≡ job_in p q → is_some job ≡ has_key (live_keys s h) q
+pub live_job : (s : ScriptModel) (h : List Entry) (q : TileKey) (p : Page) (job : Option Job) → IsPlayable s → HasLivePage s h q (Some p) → option_map made_by job ≡ job_in p q → is_some job ≡ has_key (live_keys s h) q
 live_job s h q p job accepted had e =
     let (made, is, key, shows) = job_shows s (pulls_of h) had.1 q accepted had.3 in
     some_job job made (e ∙ ap (λ (z : Page). job_in z q) had.2 ∙ is) ∙ sym had.0
 
 -- and what it makes shows the key
 pub shown_job : (Live : ScriptModel → List Entry → Type 0) (q : TileKey) (p : Page) (job : Option Job) → ((s : ScriptModel) (h : List Entry) → Live s h → HasLivePage s h q (Some p)) → option_map made_by job ≡ job_in p q
-    → IfSome job (λ j. (s : ScriptModel) (h : List Entry) → IsAccepted s → Live s h → (j.key ≡ q) × KeyShows s q j.rect j.list.value)
+    → IfSome job (λ j. (s : ScriptModel) (h : List Entry) → IsPlayable s → Live s h → (j.key ≡ q) × KeyShows s q j.rect j.list.value)
 shown_job Live q p None had e = tt
 shown_job Live q p (Some j) had e = λ s h accepted live.
     let there = had s h live in

@@ -6,7 +6,7 @@ use Rattle.page_layers.specs.declared.moves.Move.{Move}
 use Rattle.page_layers.specs.Pages.{Page}
 use Rattle.model_history.specs.declared.history.Entry.{Entry}
 use Rattle.model_history.specs.Scripts.{ScriptModel}
-use Rattle.model_history.specs.Accepted.{IsAccepted}
+use Rattle.model_history.specs.Accepted.{IsPlayable}
 use Rattle.model_history.specs.Legal.{Legal}
 use Rattle.model_steps.specs.Events.{send, commit, activate}
 use Rattle.impl_host.specs.Hosts.{ImplHostModel, Hosts, IsMadeBy}
@@ -19,7 +19,7 @@ pub record SendsNow (m : ImplHostModel) : Type 0 where
   pub actor : ℕ
   pub frame : ℕ
   pub pulls : List Move
-  pub accepted : IsAccepted script
+  pub playable : IsPlayable script
   pub legal : Legal script workers (send actor frame pulls ∷ past)
   pub hosts : Hosts script past m
 
@@ -29,7 +29,7 @@ pub record PushesNow (m : ImplHostModel) (p : Page) (d : Changed) (frame : ℕ) 
   pub workers : ℕ
   pub past : List Entry
   pub actor : ℕ
-  pub accepted : IsAccepted script
+  pub playable : IsPlayable script
   pub legal : Legal script workers (commit actor frame ∷ past)
   pub hosts : Hosts script past m
   pub made : IsMadeBy script past frame p d commands

@@ -5,7 +5,7 @@ ghost use Rattle.page_layers.specs.declared.moves.Move.{Move};
 ghost use Rattle.model_history.specs.declared.history.Entry.{Entry};
 ghost use Rattle.model_history.specs.Scripts.{ScriptModel};
 ghost use Rattle.model_history.specs.Frames as frames;
-ghost use Rattle.model_history.specs.Accepted.{IsAccepted};
+ghost use Rattle.model_history.specs.Accepted.{IsPlayable};
 ghost use Rattle.model_history.specs.Legal.{Legal};
 ghost use Rattle.model_steps.specs.Events.{send, commit, activate};
 ghost use Rattle.impl_scroll.specs.Standings.{StandsForPast};
@@ -42,7 +42,7 @@ impl ImplHost {
         commands: &[Command],
     ) -> Result<Standing, AllocError>
         requires { PushesNow self.old tree.value changes frame commands.now }
-        ensures hosts { OnOk result ((s : ScriptModel) (workers : ℕ) (h : List Entry) (actor : ℕ) → IsAccepted s → Legal s workers (commit actor frame ∷ h) → Hosts s h self.old → IsMadeBy s h frame tree.value changes commands.now → Hosts s (commit actor frame ∷ h) self.new) }
+        ensures hosts { OnOk result ((s : ScriptModel) (workers : ℕ) (h : List Entry) (actor : ℕ) → IsPlayable s → Legal s workers (commit actor frame ∷ h) → Hosts s h self.old → IsMadeBy s h frame tree.value changes commands.now → Hosts s (commit actor frame ∷ h) self.new) }
         ensures before { IfOk result (λ standing. standing ≡ self.old.standing) }
         ensures active { OnOk result (self.new.trees.active ≡ self.old.trees.active) }
         ensures pending { OnOk result (IsSome self.new.trees.pending) }

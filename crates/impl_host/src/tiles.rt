@@ -8,7 +8,7 @@ ghost use Rattle.page_properties.specs.OffsetMap.{offset_at, AreOffsets};
 ghost use Rattle.page_layers.specs.declared.moves.Move.{Move};
 ghost use Rattle.model_history.specs.declared.history.Entry.{Entry};
 ghost use Rattle.model_history.specs.Scripts.{ScriptModel};
-ghost use Rattle.model_history.specs.Accepted.{IsAccepted};
+ghost use Rattle.model_history.specs.Accepted.{IsPlayable};
 ghost use Rattle.model_history.specs.Frames.{up_to};
 ghost use Rattle.model_history.specs.Tiles as tiles;
 ghost use Rattle.model_history.specs.Tiles.{live_keys};
@@ -80,8 +80,8 @@ impl ImplHost {
     /// The job that makes the tile of a key, whose list is shared; None exactly if the key is not live.
     /// What it makes shows the key in every page of the script that has it. An error means out of memory.
     pub fn job(&self, key: TileKey) -> Result<Option<Job>, AllocError>
-        ensures live { IfOk result (λ job. (s : ScriptModel) (h : List Entry) → IsAccepted s → Hosts s h self.now → is_some job ≡ has_key (live_keys s h) key) }
-        ensures shows { IfOk result (λ job. IfSome job (λ j. (s : ScriptModel) (h : List Entry) → IsAccepted s → Hosts s h self.now → (j.key ≡ key) × KeyShows s key j.rect j.list.value)) }
+        ensures live { IfOk result (λ job. (s : ScriptModel) (h : List Entry) → IsPlayable s → Hosts s h self.now → is_some job ≡ has_key (live_keys s h) key) }
+        ensures shows { IfOk result (λ job. IfSome job (λ j. (s : ScriptModel) (h : List Entry) → IsPlayable s → Hosts s h self.now → (j.key ≡ key) × KeyShows s key j.rect j.list.value)) }
         ensures sound { IfOk result (λ job. IfSome job (λ j. IsSound j.rect)) }
     {
         match self.live_page(key) {

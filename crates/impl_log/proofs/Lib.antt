@@ -1,4 +1,3 @@
-pub mod Inputs
 pub mod ShortRuns
 pub mod ProgressSteps
 pub mod Forgetting

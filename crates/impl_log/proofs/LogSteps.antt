@@ -11,13 +11,13 @@ use Rattle.model_history.specs.Scripts.{ScriptModel}
 use Rattle.model_history.specs.EventFields.{kind_of, actor_of, uses}
 use Rattle.model_history.specs.Scans.{has_ended}
 use Rattle.model_history.specs.Tiles.{in_flight}
-use Rattle.model_history.specs.Accepted.{IsAccepted}
+use Rattle.model_history.specs.Accepted.{IsPlayable}
 use Rattle.model_history.specs.Due.{due}
 use Rattle.model_history.specs.Legal.{sched, is_open, can, Next}
 use Rattle.model_history.proofs.BoolFacts.{and_left, and_right, not_true}
 use Rattle.model_history.proofs.DueFacts.{entry}
 use Rattle.model_history.proofs.DueRows.{MayAsk, due_row}
-use Rattle.model_history.proofs.RangeBounds.{few_frames, sent_few}
+use Rattle.model_history.proofs.RangeBounds.{sent_few}
 use Rattle.model_history.proofs.UsedInputs.{uses_few}
 use Rattle.impl_log.specs.declared.progress.Progress.{Progress}
 use Rattle.impl_log.specs.declared.input_places.InputPlaces.{InputPlaces}
@@ -27,7 +27,6 @@ use Rattle.impl_log.specs.inner.Steps.{placed, stepped}
 use Rattle.impl_log.specs.inner.Logs.{IsLogOf, MayStep}
 use Rattle.impl_log.proofs.ShortRuns.{in_flight_few}
 use Rattle.impl_log.proofs.ProgressSteps.{progress_step, one_fewer}
-use Rattle.impl_log.proofs.Inputs.{few_inputs}
 use Rattle.impl_log.proofs.Forgetting.{newest_placed, older_placed, still_forgettable}
 
 -- the past with an entry more
@@ -68,7 +67,7 @@ still_log s n p places old new log same few more =
       first = few;
     })
 
-module _ (s : ScriptModel) (n : ℕ) (h : List Entry) (p : Progress) (spare : ℕ) (places : InputPlaces) (first : ℕ) (acc : IsAccepted s) (log : IsLogOf s n h p spare places first) (a : ℕ) (e : Event) (x : Next s n h (entry a e)) where
+module _ (s : ScriptModel) (n : ℕ) (h : List Entry) (p : Progress) (spare : ℕ) (places : InputPlaces) (first : ℕ) (acc : IsPlayable s) (log : IsLogOf s n h p spare places first) (a : ℕ) (e : Event) (x : Next s n h (entry a e)) where
   done_held : kind_of e ≡ kind.Done → 1 ≤ length (in_flight h)
   done_held = by_event e x
     where
@@ -78,9 +77,9 @@ module _ (s : ScriptModel) (n : ℕ) (h : List Entry) (p : Progress) (spare : �
 
   pub may_step : MayStep p e
   may_step =
-      let inputs : length s.inputs ≤ 65536 = few_inputs s acc in
+      let inputs = acc.few_inputs in
       let used = uses_few s n h log.legal in
-      let frames = few_frames s acc in
+      let frames = acc.few_frames in
       let sent = sent_few s n h log.legal in
       let flying = in_flight_few s n h log.legal in
       let few = log.few in

@@ -4,7 +4,7 @@ ghost use Rattle.std.specs.Prelude.{◌≡◌, ◌<◌, ◌≤◌, ◌+◌, ◌-
 ghost use Rattle.model_states.specs.Kinds.{may, is_main_idle};
 ghost use Rattle.model_history.specs.EventFields.{kind_of, actor_of, begins, uses};
 ghost use Rattle.model_history.specs.declared.event.Event.TheVariants as event;
-ghost use Rattle.model_history.specs.Accepted.{IsAccepted};
+ghost use Rattle.model_history.specs.Accepted.{IsPlayable};
 ghost use Rattle.model_history.specs.Due as dues;
 ghost use Rattle.model_history.specs.Frames as frames;
 ghost use Rattle.model_history.specs.Legal as legal;
@@ -188,11 +188,11 @@ impl Log {
         self.progress
     }
 
-    /// The history is legal, the script is accepted, and there are 16 workers at most. A law that does
+    /// The history is legal, the script can be played, and there are 16 workers at most. A law that does
     /// nothing when it runs.
     pub fn is_legal(&self)
         ensures legal { legal.Legal self.now.script self.now.workers (past self.now) }
-        ensures accepted { IsAccepted self.now.script }
+        ensures playable { IsPlayable self.now.script }
         ensures few { self.now.workers ≤ 16 }
     {
         self.script.is_accepted();

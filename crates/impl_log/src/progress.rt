@@ -1,6 +1,6 @@
 //! How far a run has come.
 
-ghost use Rattle.std.specs.Prelude.{◌≡◌, ◌≤◌, true};
+ghost use Rattle.std.specs.Prelude.{◌≡◌, ◌<◌, ◌≤◌, true};
 ghost use Rattle.model_states.specs.Kinds.{may};
 ghost use Rattle.model_states.specs.declared.kind.Kind.TheVariants as kind;
 ghost use Rattle.model_history.specs.EventFields as fields;
@@ -75,7 +75,7 @@ impl Progress {
     // What every event steps alike.
     fn with_kind(self, event: &Event) -> Progress
         requires state { may self.sched (fields.kind_of event.now) ≡ true }
-        requires few { self.inputs ≤ 65536 }
+        requires few { self.inputs < 4294967295 }
         ensures { result ≡ spec.with_kind event.now self }
     {
         Progress {
@@ -92,7 +92,7 @@ impl Progress {
 
     // What an event steps by the numbers that it names.
     fn with_named(self, event: &Event) -> Progress
-        requires few_sends { self.sends ≤ 65536 }
+        requires few_sends { self.sends < 4294967295 }
         requires few_in_flight { self.in_flight ≤ 16 }
         requires held { fields.kind_of event.now ≡ kind.Done → 1 ≤ self.in_flight }
         ensures { result ≡ spec.with_named event.now self }
@@ -131,8 +131,8 @@ impl Progress {
     /// The progress after one event more, which the scheduler's state allows.
     pub(crate) fn after(self, event: &Event) -> Progress
         requires state { may self.sched (fields.kind_of event.now) ≡ true }
-        requires few { self.inputs ≤ 65536 }
-        requires few_sends { self.sends ≤ 65536 }
+        requires few { self.inputs < 4294967295 }
+        requires few_sends { self.sends < 4294967295 }
         requires few_in_flight { self.in_flight ≤ 16 }
         requires held { fields.kind_of event.now ≡ kind.Done → 1 ≤ self.in_flight }
         ensures { result ≡ spec.stepped event.now self }

@@ -1,5 +1,5 @@
 -- The ranks of two trees together.
-use Rattle.std.proofs.Common.{◌≡◌, ◌⊎◌, inl, inr, ℕ, ◌*◌, ◌-◌, ◌<◌, ◌≤◌, nat_lt, ℤ, pos, ◌+ℤ◌, ◌-ℤ◌, ◌<ℤ◌, int_lt, Bool, true, false, cond, ◌&&◌, min, option_map, Option, Some, None, is_some, List, [], ◌∷◌, ◌++◌, length, map, filter_map, find, refl, sym, ◌∙◌, ap, subst, arith}
+use Rattle.std.proofs.Common.{◌≡◌, ◌⊎◌, inl, inr, ℕ, ◌*◌, ◌-◌, ◌<◌, ◌≤◌, nat_lt, ℤ, pos, ◌+ℤ◌, ◌-ℤ◌, ◌<ℤ◌, int_lt, Bool, true, false, cond, min, option_map, Option, Some, None, is_some, List, [], ◌∷◌, ◌++◌, map, filter_map, find, refl, sym, ◌∙◌, ap, subst, arith}
 use Rattle.std.specs.Prelude.{nat_le}
 use Rattle.std.specs.List.{flat_map, cons_option, AllByRecursion}
 use Rattle.std.specs.Int.{int_max, int_min}
@@ -40,8 +40,8 @@ use Rattle.page_layers.proofs.Placing.{size_facts}
 use Rattle.page_properties.specs.Placement.{clip_of}
 use Rattle.tile_visible.specs.Visible.{viewport, grid_of, cut_by, seen, by_id, key_at}
 use Rattle.model_history.specs.Scripts.{ScriptModel}
-use Rattle.model_history.specs.Ranges.{in_range, is_in_ranges, head_in_range, main_in_range, inputs_in_range}
-use Rattle.model_history.specs.Accepted.{IsAccepted}
+use Rattle.model_history.specs.Ranges.{in_range}
+use Rattle.model_history.specs.Accepted.{IsPlayable}
 use Rattle.model_history.specs.Tiles.{Tree, keys_of, page_keys}
 use Rattle.model_history.specs.Ranking.{place_named, borders, rank_on, rank_in}
 use Rattle.model_history.proofs.BoolFacts.{and_left, and_right, is_below, not_both, or_neither, or_left_false, or_right_false}
@@ -55,7 +55,7 @@ use Rattle.impl_ranks.proofs.VisibleKeys.{has_its_id}
 use Rattle.impl_ranks.proofs.SeenLayers.{rank_is, tile_is}
 use Rattle.impl_ranks.proofs.SeenRanks.{ranked_as, IsSeenWell, HaveOwnIds, flat_has, has_flat, flat_once, once_append}
 
--- ---- the borders of an accepted script
+-- ---- the borders of a playable script
 
 pub record HasBorders (s : ScriptModel) : Type 0 where
   pub ordered : s.soon ≤ s.eventually
@@ -67,16 +67,14 @@ in_range_facts low high n h =
     let b : nat_le n high ≡ true = and_right (nat_le low n) (nat_le n high) h in
     (grind (arith, nat_tests), grind (arith, nat_tests))
 
-pub has_borders : (s : ScriptModel) → IsAccepted s → HasBorders s
-unfolding is_in_ranges
+pub has_borders : (s : ScriptModel) → IsPlayable s → HasBorders s
 has_borders s acc =
-    let head : head_in_range s ≡ true = and_left (head_in_range s) (main_in_range s.version s.main) (and_left (head_in_range s && main_in_range s.version s.main) (inputs_in_range (length s.main) s.inputs) acc.ranges) in
-    let last : in_range s.soon max_distance s.eventually ≡ true = and_right _ (in_range s.soon max_distance s.eventually) head in
+    let last : in_range s.soon max_distance s.eventually ≡ true = and_right _ (in_range s.soon max_distance s.eventually) acc.head in
     let f = in_range_facts s.soon max_distance s.eventually last in
     record { ordered = f.0; few = f.1 }
 
 -- a viewport is narrow
-pub narrow : (s : ScriptModel) (p : Page) → IsAccepted s → IsView p.view → IsNarrow (borders s p)
+pub narrow : (s : ScriptModel) (p : Page) → IsPlayable s → IsView p.view → IsNarrow (borders s p)
 narrow s p acc v = record {
   x = refl;
   y = refl;
@@ -135,7 +133,7 @@ clip_inside r v (Some c) h =
     let (x, y, i, j) = meet_points r (common c v) h in
     points_meet r v (x, y, i, common_covered c v x y j)
 
-pub near_seen : (s : ScriptModel) (t : Tree) (l : PageLayer) → IsAccepted s → IsView t.page.view → IsLayerSide l.w → IsLayerSide l.h → (place : Place) → has (grid_of t.page l) place ≡ true → IsSeenNear (borders s t.page) (seen t.page t.offset l place)
+pub near_seen : (s : ScriptModel) (t : Tree) (l : PageLayer) → IsPlayable s → IsView t.page.view → IsLayerSide l.w → IsLayerSide l.h → (place : Place) → has (grid_of t.page l) place ≡ true → IsSeenNear (borders s t.page) (seen t.page t.offset l place)
 near_seen s t l acc view w h place there =
     let low = view.tile_low in
     let high = view.tile_high in
@@ -151,7 +149,7 @@ near_seen s t l acc view w h place there =
       borders = (has_borders s acc).ordered;
     }
 
-pub seen_well : (s : ScriptModel) (t : Tree) (l : PageLayer) (v : SeenLayerModel) → IsAccepted s → IsView t.page.view → IsLayerSide l.w → IsLayerSide l.h → IsLayerOf t l v → IsSeenWell (borders s t.page) v
+pub seen_well : (s : ScriptModel) (t : Tree) (l : PageLayer) (v : SeenLayerModel) → IsPlayable s → IsView t.page.view → IsLayerSide l.w → IsLayerSide l.h → IsLayerOf t l v → IsSeenWell (borders s t.page) v
 seen_well s t l v acc view w h is = record {
   near = λ place there. subst (IsSeenNear (borders s t.page)) (sym (tile_is t l v place is.seen)) (near_seen s t l acc view w h place (ap (λ (g : Sides). has g place) (sym is.seen.grid) ∙ there));
 }
@@ -230,7 +228,7 @@ pub where_key : (s : ScriptModel) (a : Side) (o : Option SeenTreeModel) (q : Til
 where_key s a None q = tt
 where_key s a (Some r) q = layer_key (borders s r.page) a (layer_at q.layer r.layers) q
 
-module _ (s : ScriptModel) (acc : IsAccepted s) (a : Side) (t : Tree) where
+module _ (s : ScriptModel) (acc : IsPlayable s) (a : Side) (t : Tree) where
   tree_page : (r : SeenTreeModel) → IsSeenTree t r → IsPage r.page → IsPage t.page
   tree_page r is p = subst IsPage is.page p
 
@@ -274,7 +272,7 @@ least_none : (o : Option Rank) → least None o ≡ o
 least_none None = refl
 least_none (Some r) = refl
 
-module _ (s : ScriptModel) (acc : IsAccepted s) (a p : Tree) (o w : Option SeenTreeModel) (left : IsSeenWhere a o) (right : IsSeenWhere p w) (lp : IsPageWhere o) (rp : IsPageWhere w) where
+module _ (s : ScriptModel) (acc : IsPlayable s) (a p : Tree) (o w : Option SeenTreeModel) (left : IsSeenWhere a o) (right : IsSeenWhere p w) (lp : IsPageWhere o) (rp : IsPageWhere w) where
   active_is : (q : TileKey) → rank_where s side.Active o q ≡ rank_in s side.Active a q
   active_is q = where_is s acc side.Active a o q left lp
 

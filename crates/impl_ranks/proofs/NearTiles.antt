@@ -13,7 +13,7 @@ use Rattle.page_layers.proofs.LayerKeeps.{each-found}
 use Rattle.page_layers.proofs.Placing.{size_facts}
 use Rattle.tile_visible.specs.Visible.{grid_of, seen, screen_rect}
 use Rattle.model_history.specs.Scripts.{ScriptModel}
-use Rattle.model_history.specs.Accepted.{IsAccepted}
+use Rattle.model_history.specs.Accepted.{IsPlayable}
 use Rattle.model_history.specs.Tiles.{Tree}
 use Rattle.model_history.specs.Ranking.{place_named, borders, rank_on, rank_in}
 use Rattle.model_history.proofs.BoolFacts.{and_left}
@@ -25,7 +25,7 @@ use Rattle.impl_ranks.proofs.SeenLayers.{has_in}
 use Rattle.impl_ranks.proofs.SeenRanks.{ranked_as}
 use Rattle.impl_ranks.proofs.BothTrees.{near_seen}
 
-pub near_ranked : (s : ScriptModel) (a : Side) (t : Tree) (q : TileKey) (r : Rank) → IsAccepted s → IsPage t.page → rank_in s a t q ≡ Some r
+pub near_ranked : (s : ScriptModel) (a : Side) (t : Tree) (q : TileKey) (r : Rank) → IsPlayable s → IsPage t.page → rank_in s a t q ≡ Some r
     → (l : PageLayer) × (find (has_id q.layer) t.page.layers ≡ Some l) × (meets (screen_rect t.page t.offset l (place_named q)) (area_near (borders s t.page)) ≡ true)
 unfolding rank_in
 near_ranked s a t q r acc page e = by_layer (find (has_id q.layer) t.page.layers) refl (ap (λ (b : Bool). cond b (rank_on s a t q (find (has_id q.layer) t.page.layers)) None) (sym (key_of_page t.page t.stamp q page.distinct)) ∙ e)

@@ -14,7 +14,7 @@ ghost use Rattle.tile_visible.specs.Visible.{screen_rect};
 ghost use Rattle.model_history.specs.Scripts.{ScriptModel};
 ghost use Rattle.model_history.specs.Tiles.{Tree};
 ghost use Rattle.model_history.specs.Ranking.{borders, place_named, rank_in};
-ghost use Rattle.model_history.specs.Accepted.{IsAccepted};
+ghost use Rattle.model_history.specs.Accepted.{IsPlayable};
 ghost use Rattle.page_layers.specs.Sound.{IsPage};
 ghost use Rattle.impl_ranks.specs.Areas.{area_near, IsSeenNear};
 
@@ -27,5 +27,5 @@ pub fn tiles_far_away_have_no_bin()
 /// A key that has a rank in a tree names a place of one of its layers that meets the area near the
 /// viewport.
 pub fn ranked_tiles_are_near()
-    ensures { (s : ScriptModel) (side : Side) (t : Tree) (q : TileKey) (r : Rank) → IsAccepted s → IsPage t.page → rank_in s side t q ≡ Some r → (l : PageLayer) × (find (has_id q.layer) t.page.layers ≡ Some l) × (meets (screen_rect t.page t.offset l (place_named q)) (area_near (borders s t.page)) ≡ true) }
+    ensures { (s : ScriptModel) (side : Side) (t : Tree) (q : TileKey) (r : Rank) → IsPlayable s → IsPage t.page → rank_in s side t q ≡ Some r → (l : PageLayer) × (find (has_id q.layer) t.page.layers ≡ Some l) × (meets (screen_rect t.page t.offset l (place_named q)) (area_near (borders s t.page)) ≡ true) }
 {}

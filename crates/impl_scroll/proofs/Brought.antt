@@ -10,14 +10,14 @@ use Rattle.model_states.specs.Bounds.{IsBoundedNumber, IsBounded}
 use Rattle.page_layers.specs.Scrolls.{clamp_to}
 use Rattle.model_steps.specs.Standing.{brought_to}
 
-fits : (pb d p : ℤ) → IsBoundedNumber pb → IsBoundedNumber d → IsBoundedNumber p → (to : ℤ) → neg_ℤ (pos (2 ^ 39)) ≤ℤ to → to ≤ℤ pos (2 ^ 39) → FitsSigned w64 (to -ℤ ((pb +ℤ d) -ℤ p))
+fits : (pb d p : ℤ) → IsBoundedNumber pb → IsBoundedNumber d → IsBoundedNumber p → (to : ℤ) → neg_ℤ (pos (2 ^ 58)) ≤ℤ to → to ≤ℤ pos (2 ^ 58) → FitsSigned w64 (to -ℤ ((pb +ℤ d) -ℤ p))
 fits pb d p a b c to l u = omega (arith, ints, a.above, a.below, b.above, b.below, c.above, c.below, l, u)
 
-clamp_low : (m : ℕ) (z : ℤ) → neg_ℤ (pos (2 ^ 39)) ≤ℤ clamp_to m z
+clamp_low : (m : ℕ) (z : ℤ) → neg_ℤ (pos (2 ^ 58)) ≤ℤ clamp_to m z
 unfolding clamp_to
 clamp_low m z = omega (arith, ints, clamps)
 
-clamp_high : (m : ℕ) (z : ℤ) → m ≤ 2 ^ 20 → clamp_to m z ≤ℤ pos (2 ^ 39)
+clamp_high : (m : ℕ) (z : ℤ) → m ≤ 2 ^ 20 → clamp_to m z ≤ℤ pos (2 ^ 58)
 unfolding clamp_to
 clamp_high m z l = omega (arith, ints, clamps, l)
 

@@ -16,11 +16,11 @@ use Rattle.model_history.specs.declared.input.Input.{Input}
 use Rattle.model_history.specs.declared.input.Input.TheVariants as input
 use Rattle.model_history.specs.declared.history.Entry.{Entry}
 use Rattle.model_history.specs.Scripts.{ScriptModel}
-use Rattle.model_history.specs.Ranges.{in_range, is_amount, draw_count, input_in_range, head_in_range, main_in_range, inputs_in_range, is_in_ranges}
+use Rattle.model_history.specs.Ranges.{in_range, is_amount, input_in_range}
 use Rattle.model_history.specs.Frames.{page, pulls_of, active, up_to, active_page}
 use Rattle.model_history.specs.Scrolls.{offset, accepted, active_offsets}
 use Rattle.model_history.specs.Due.{next_input, input_now}
-use Rattle.model_history.specs.Accepted.{IsAccepted}
+use Rattle.model_history.specs.Accepted.{IsPlayable}
 use Rattle.model_history.specs.Legal.{Legal}
 use Rattle.model_history.proofs.BoolFacts.{and_left, and_right}
 use Rattle.model_history.proofs.PageStanding.{most_absent}
@@ -60,7 +60,7 @@ at_origin : (m : ℕ) (ax : Axis) → m ≡ 0 → IsInRange m (along ax origin)
 at_origin m across e = record { low = omega (arith, ints); high = omega (arith, ints); bounded = omega (arith, e) }
 at_origin m down e = record { low = omega (arith, ints); high = omega (arith, ints); bounded = omega (arith, e) }
 
-offsets_within : (s : ScriptModel) (n : ℕ) (h : List Entry) → IsAccepted s → Legal s n h → AreWithinRanges (active_page s h) (active_offsets s h)
+offsets_within : (s : ScriptModel) (n : ℕ) (h : List Entry) → IsPlayable s → Legal s n h → AreWithinRanges (active_page s h) (active_offsets s h)
 offsets_within s n h acc legal sc ax = go (has_scroller (active_page s h) sc) refl
   where
     go : (b : Bool) → has_scroller (active_page s h) sc ≡ b → IsInRange (most (active_page s h) sc ax) (along ax (cond b (record { x = offset s h sc across; y = offset s h sc down }) origin))
@@ -74,7 +74,7 @@ module _ (s : ScriptModel) (h : List Entry) (st : StandingModel) (p : Page) (is 
   same_offsets : offset_at st.active ≡ active_offsets s h
   same_offsets = λ i sc. is sc i
 
-  pub ranges_there : (n : ℕ) → IsAccepted s → Legal s n h → AreWithinRanges p (offset_at st.active)
+  pub ranges_there : (n : ℕ) → IsPlayable s → Legal s n h → AreWithinRanges p (offset_at st.active)
   ranges_there n acc legal =
       subst (λ (q : Page). AreWithinRanges q (offset_at st.active)) (sym same_page) (subst (AreWithinRanges (active_page s h)) (sym same_offsets) (offsets_within s n h acc legal))
 
@@ -100,13 +100,6 @@ one_of f [] i x all e = absurd cc
 one_of f (y ∷ ys) zero x all e = let same : y ≡ x = cc in ap f (sym same) ∙ and_left (f y) (list_all f ys) all
 one_of f (y ∷ ys) (suc i) x all e = one_of f ys i x (and_right (f y) (list_all f ys) all) e
 
-inputs_fit : (s : ScriptModel) → is_in_ranges s ≡ true → list_all (input_in_range (length s.main)) s.inputs ≡ true
-unfolding is_in_ranges
-inputs_fit s e =
-    let few : Bool = nat_le (length s.inputs) 65536 in
-    let each : Bool = list_all (input_in_range (length s.main)) s.inputs in
-    and_right few each (and_left (few && each) (nat_le (draw_count s.inputs) 4096) (and_right (head_in_range s && main_in_range s.version s.main) (inputs_in_range (length s.main) s.inputs) e))
-
 at_most : (n : ℕ) → in_range 0 2047 n ≡ true → n ≤ 2047
 at_most n e = let t : nat_le n 2047 ≡ true = and_right (nat_le 0 n) (nat_le n 2047) e in grind (arith, nat_tests)
 
@@ -126,11 +119,11 @@ pub record WheelFits (x y : ℕ) (dx dy : ℤ) : Type 0 where
   pub across : IsAmount dx
   pub down : IsAmount dy
 
-pub wheel_fits : (s : ScriptModel) (h : List Entry) (x y : ℕ) (dx dy : ℤ) → IsAccepted s → input_now s h ≡ Some (input.Wheel x y dx dy) → WheelFits x y dx dy
+pub wheel_fits : (s : ScriptModel) (h : List Entry) (x y : ℕ) (dx dy : ℤ) → IsPlayable s → input_now s h ≡ Some (input.Wheel x y dx dy) → WheelFits x y dx dy
 wheel_fits s h x y dx dy acc e =
     let column : Bool = in_range 0 2047 x in
     let row : Bool = in_range 0 2047 y in
-    let fits : ((column && row) && is_amount dx) && is_amount dy ≡ true = one_of (input_in_range (length s.main)) s.inputs (next_input h) (input.Wheel x y dx dy) (inputs_fit s acc.ranges) e in
+    let fits : ((column && row) && is_amount dx) && is_amount dy ≡ true = one_of (input_in_range (length s.main)) s.inputs (next_input h) (input.Wheel x y dx dy) acc.inputs e in
     let three = and_left ((column && row) && is_amount dx) (is_amount dy) fits in
     let two = and_left (column && row) (is_amount dx) three in
     record {

@@ -12,7 +12,7 @@ use Rattle.model_history.specs.Scripts.{ScriptModel}
 use Rattle.model_history.specs.Frames.{pending, pending_page}
 use Rattle.model_history.specs.Scrolls.{next_pulls, next_clamps, clobbers}
 use Rattle.model_history.specs.ScrollLaws.{AreRising}
-use Rattle.model_history.specs.Accepted.{IsAccepted}
+use Rattle.model_history.specs.Accepted.{IsPlayable}
 use Rattle.model_history.specs.Legal.{is_open, Legal}
 use Rattle.model_steps.specs.Standing.{clamped_by}
 use Rattle.model_steps.proofs.ListedMoves.{send_lists, activation_lists}
@@ -30,7 +30,7 @@ pub pulls_now : (s : ScriptModel) (n : ℕ) (h : List Entry) (rs : List Row) (ms
     → ((sc : ℕ) (ax : Axis) → amount_in sc ax ms ≡ pull_answer (row_value rs sc ax)) → ms ≡ next_pulls s h
 pulls_now s n h rs ms legal opened is rising amounts = sym (send_lists s n h ms legal (open_idle s n h legal opened) rising (λ sc ax. amounts sc ax ∙ ap pull_answer (is sc ax)))
 
-pub clamps_now : (s : ScriptModel) (n : ℕ) (h : List Entry) (rs : List Row) (p : Page) (ids : List ℕ) (ms : List Move) → IsAccepted s → Legal s n h → AreValues s h rs → p ≡ pending_page s h
+pub clamps_now : (s : ScriptModel) (n : ℕ) (h : List Entry) (rs : List Row) (p : Page) (ids : List ℕ) (ms : List Move) → IsPlayable s → Legal s n h → AreValues s h rs → p ≡ pending_page s h
     → ((sc : ℕ) → has_number ids sc ≡ clobbers s (pending h) sc) → AreRising ms
     → ((sc : ℕ) (ax : Axis) → amount_in sc ax ms ≡ cond (has_scroller p sc) (clamped_by (has_number ids) p (row_value rs) sc ax) (pos 0)) → ms ≡ next_clamps s h
 clamps_now s n h rs p ids ms acc legal is e outright rising amounts =

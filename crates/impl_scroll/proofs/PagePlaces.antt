@@ -13,7 +13,7 @@ use Rattle.model_history.specs.Scripts.{ScriptModel}
 use Rattle.model_history.specs.Frames.{page, pulls_of, active, pending, up_to, active_page, pending_page}
 use Rattle.model_history.specs.Scrolls.{clobbers, active_offsets, pending_offsets}
 use Rattle.model_history.specs.Values.{values}
-use Rattle.model_history.specs.Accepted.{IsAccepted}
+use Rattle.model_history.specs.Accepted.{IsPlayable}
 use Rattle.model_history.specs.Legal.{Legal}
 use Rattle.model_history.proofs.ValueReadings.{active_is_value, offset_in_range, pending_in_range}
 use Rattle.model_steps.specs.Standing.{active_at, pending_at}
@@ -50,7 +50,7 @@ module _ (s : ScriptModel) (n : ℕ) (h : List Entry) (rs : List Row) (legal : L
       ∙ (ap (λ (v : ℕ → Axis → Synced). offsets_in (active_page s h) (active_at v) sc) all_values
       ∙ sym (ap (λ (f : ℕ → Point). f sc) (active_offsets_are s n h legal))))
 
-  pub active_in_range : (p : Option Page) → IsAccepted s → p ≡ page_at s h (active h) → AreInRange (at_active rs) p
+  pub active_in_range : (p : Option Page) → IsPlayable s → p ≡ page_at s h (active h) → AreInRange (at_active rs) p
   active_in_range p acc e =
       subst (AreInRange (at_active rs)) (sym e)
       (range_where s h (active h) (at_active rs) (λ sc ax.
@@ -69,7 +69,7 @@ module _ (s : ScriptModel) (n : ℕ) (h : List Entry) (rs : List Row) (legal : L
         ∙ ((λ i. offsets_in (pending_page s h) (pending_at (all_outright i) (pending_page s h) (all_values i)) sc)
         ∙ sym (ap (λ (f : ℕ → Point). f sc) (pending_offsets_are s n h legal))))
 
-    pub pending_range : (p : Option Page) → IsAccepted s → p ≡ page_at s h (pending h) → AreInRange (at_pending ids rs) p
+    pub pending_range : (p : Option Page) → IsPlayable s → p ≡ page_at s h (pending h) → AreInRange (at_pending ids rs) p
     pending_range p acc e =
         subst (AreInRange (at_pending ids rs)) (sym e)
         (range_where s h (pending h) (at_pending ids rs) (λ sc ax.

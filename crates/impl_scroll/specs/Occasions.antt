@@ -10,7 +10,7 @@ use Rattle.model_history.specs.Frames as frames
 use Rattle.model_history.specs.Frames.{pulls_of, pending_page}
 use Rattle.model_history.specs.Scrolls.{clobbers}
 use Rattle.model_history.specs.Due.{input_now}
-use Rattle.model_history.specs.Accepted.{IsAccepted}
+use Rattle.model_history.specs.Accepted.{IsPlayable}
 use Rattle.model_history.specs.Legal.{Legal}
 use Rattle.model_steps.specs.Events.{send, abort, commit, activate}
 use Rattle.impl_scroll.specs.Rows.{has_number}
@@ -22,7 +22,7 @@ pub record StandsNow (st : StandingModel) : Type 0 where
   pub script : ScriptModel
   pub workers : ℕ
   pub past : List Entry
-  pub accepted : IsAccepted script
+  pub playable : IsPlayable script
   pub legal : Legal script workers past
   pub stands : StandsForPast script past st
 
@@ -31,7 +31,7 @@ pub record ShowsNow (st : StandingModel) (active : Option Page) : Type 0 where
   pub script : ScriptModel
   pub workers : ℕ
   pub past : List Entry
-  pub accepted : IsAccepted script
+  pub playable : IsPlayable script
   pub legal : Legal script workers past
   pub stands : StandsForPast script past st
   pub page : active ≡ page_at script past (frames.active past)
@@ -41,7 +41,7 @@ pub record WheelsNow (st : StandingModel) (active : Option Page) (x y : ℕ) (dx
   pub script : ScriptModel
   pub workers : ℕ
   pub past : List Entry
-  pub accepted : IsAccepted script
+  pub playable : IsPlayable script
   pub legal : Legal script workers past
   pub stands : StandsForPast script past st
   pub page : active ≡ page_at script past (frames.active past)
@@ -53,7 +53,7 @@ pub record MovesNow (st : StandingModel) (seen : Pages) (ms : List Move) : Type 
   pub workers : ℕ
   pub past : List Entry
   pub entry : Entry
-  pub accepted : IsAccepted script
+  pub playable : IsPlayable script
   pub legal : Legal script workers (entry ∷ past)
   pub stands : StandsForPast script past st
   pub pages : ArePages script past seen
@@ -68,7 +68,7 @@ pub record ScrollSends (st : StandingModel) : Type 0 where
   pub actor : ℕ
   pub frame : ℕ
   pub pulls : List Move
-  pub accepted : IsAccepted script
+  pub playable : IsPlayable script
   pub legal : Legal script workers (send actor frame pulls ∷ past)
   pub stands : StandsForPast script past st
 
@@ -79,7 +79,7 @@ pub record AbortsNow (st : StandingModel) (seen : Pages) : Type 0 where
   pub past : List Entry
   pub actor : ℕ
   pub frame : ℕ
-  pub accepted : IsAccepted script
+  pub playable : IsPlayable script
   pub legal : Legal script workers (abort actor frame ∷ past)
   pub stands : StandsForPast script past st
   pub pages : ArePages script past seen
@@ -91,7 +91,7 @@ pub record CommitsNow (st : StandingModel) (active : Option Page) (page : Page) 
   pub past : List Entry
   pub actor : ℕ
   pub frame : ℕ
-  pub accepted : IsAccepted script
+  pub playable : IsPlayable script
   pub legal : Legal script workers (commit actor frame ∷ past)
   pub stands : StandsForPast script past st
   pub active_page : active ≡ page_at script past (frames.active past)
@@ -105,7 +105,7 @@ pub record ScrollActivates (st : StandingModel) (page : Page) (clamps : List Mov
   pub past : List Entry
   pub actor : ℕ
   pub frame : ℕ
-  pub accepted : IsAccepted script
+  pub playable : IsPlayable script
   pub legal : Legal script workers (activate actor frame clamps ∷ past)
   pub stands : StandsForPast script past st
   pub page_is : page ≡ pending_page script past

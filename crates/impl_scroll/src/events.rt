@@ -9,7 +9,7 @@ ghost use Rattle.model_history.specs.EventFields as fields;
 ghost use Rattle.model_history.specs.Frames as frames;
 ghost use Rattle.model_history.specs.Frames.{pulls_of, pending_page};
 ghost use Rattle.model_history.specs.Scrolls.{clobbers, next_pulls, next_clamps};
-ghost use Rattle.model_history.specs.Accepted.{IsAccepted};
+ghost use Rattle.model_history.specs.Accepted.{IsPlayable};
 ghost use Rattle.model_history.specs.Legal.{Legal, is_open};
 ghost use Rattle.model_steps.specs.Events.{send, abort, commit, activate};
 ghost use Rattle.impl_scroll.specs.Rows.{has_number};
@@ -98,7 +98,7 @@ impl Standing {
         outright: &[u32],
     ) -> Result<Moves, AllocError>
         requires { StandsNow self.now }
-        ensures { IfOk result (λ clamps. (s : ScriptModel) (workers : ℕ) (h : List EntryModel) → IsAccepted s → Legal s workers h → StandsForPast s h self.now → page.now ≡ pending_page s h → ((sc : ℕ) → has_number outright.now sc ≡ clobbers s (frames.pending h) sc) → clamps ≡ next_clamps s h) }
+        ensures { IfOk result (λ clamps. (s : ScriptModel) (workers : ℕ) (h : List EntryModel) → IsPlayable s → Legal s workers h → StandsForPast s h self.now → page.now ≡ pending_page s h → ((sc : ℕ) → has_number outright.now sc ≡ clobbers s (frames.pending h) sc) → clamps ≡ next_clamps s h) }
     {
         self.rows.clamps(alloc, page, outright)
     }

@@ -13,7 +13,7 @@ use Rattle.impl_tiles.specs.Stores.{image_of, empty_store, without}
 use Rattle.impl_tiles.proofs.StoreWords.{image_of-without}
 use Rattle.model_history.specs.declared.history.Entry.{Entry}
 use Rattle.model_history.specs.Scripts.{ScriptModel}
-use Rattle.model_history.specs.Accepted.{IsAccepted}
+use Rattle.model_history.specs.Accepted.{IsPlayable}
 use Rattle.model_history.specs.Legal.{Legal}
 use Rattle.model_history.specs.Tiles.{page_keys, active_tree, pending_tree, keys_of, ready, required}
 use Rattle.model_history.specs.Ranking.{choice}
@@ -62,7 +62,7 @@ reseen s h g m next holds same foresees = record {
 -- after an activation
 
 pub activate_holds : (s : ScriptModel) (n : ℕ) (h : List Entry) (a k : ℕ) (ms : List Move) (m : Managed) (pins dead : List TileKey) (spare : ℕ)
-    → IsAccepted s → Legal s n (activate a k ms ∷ h) → Manages s h m → ((q : TileKey) → has_key pins q ≡ has_key (required s h) q)
+    → IsPlayable s → Legal s n (activate a k ms ∷ h) → Manages s h m → ((q : TileKey) → has_key pins q ≡ has_key (required s h) q)
     → ((q : TileKey) → has_key (ready s h) q ≡ true → has_key dead q ≡ not (has_key (keys_of (pending_tree s h)) q))
     → Manages s (activate a k ms ∷ h) (record { store = without m.store dead spare; pinned = pins; outlook = outlook.Unseen })
 activate_holds s n h a k ms m pins dead spare acc legal holds needed dies = record {

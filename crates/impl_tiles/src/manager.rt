@@ -13,7 +13,7 @@ ghost use Rattle.tile_queue.specs.Queues.{rank_key, EachKeyOnce};
 ghost use Rattle.impl_tiles.specs.Stores.{image_of, is_ready};
 ghost use Rattle.model_history.specs.declared.history.Entry.{Entry};
 ghost use Rattle.model_history.specs.Scripts.{ScriptModel};
-ghost use Rattle.model_history.specs.Accepted.{IsAccepted};
+ghost use Rattle.model_history.specs.Accepted.{IsPlayable};
 ghost use Rattle.model_history.specs.Legal.{Legal};
 ghost use Rattle.model_history.specs.Tiles.{pending_tree, keys_of, tiles_used, ready, required, are_ready};
 ghost use Rattle.model_history.specs.Ranking.{rank_to_start, evicted_for, wanted};
@@ -315,7 +315,7 @@ impl TileManager {
     /// The pending tree becomes the active one: the keys that it needs are pinned, the ready keys that are in
     /// `dead` are dropped, and the ranks are forgotten, as by [`TileManager::forget`]. Takes no memory.
     pub fn activate(&mut self, pins: Pins, dead: &Keys)
-        ensures { (s : ScriptModel) (workers : ℕ) (h : List Entry) (actor k : ℕ) (clamps : List Move) → IsAccepted s → Legal s workers (activate actor k clamps ∷ h) → Manages s h self.old → ((q : Key) → has_key pins q ≡ has_key (required s h) q) → ((q : Key) → has_key (ready s h) q ≡ true → has_key dead.now q ≡ not (has_key (keys_of (pending_tree s h)) q)) → Manages s (activate actor k clamps ∷ h) self.new }
+        ensures { (s : ScriptModel) (workers : ℕ) (h : List Entry) (actor k : ℕ) (clamps : List Move) → IsPlayable s → Legal s workers (activate actor k clamps ∷ h) → Manages s h self.old → ((q : Key) → has_key pins q ≡ has_key (required s h) q) → ((q : Key) → has_key (ready s h) q ≡ true → has_key dead.now q ≡ not (has_key (keys_of (pending_tree s h)) q)) → Manages s (activate actor k clamps ∷ h) self.new }
     {
         self.store.give_up(dead);
         self.pins = pins;

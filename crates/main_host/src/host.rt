@@ -181,7 +181,7 @@ impl MainHost {
     /// that is, if it has commands or moves a main value by more or less than its pull. A pull that
     /// its range cuts is such a move.
     ///
-    /// A main frame must be left, and both parts of each pull are below 2^39 in absolute value. A pull of
+    /// A main frame must be left, and both parts of each pull are below 2^58 in absolute value. A pull of
     /// a scroller that the page lacks moves nothing. An error means out of memory: no frame is ended, and it
     /// can be begun again, with the same pulls or others.
     pub fn begin(&mut self, pulls: &Moves) -> Result<MainEnd, AllocError>

@@ -1,4 +1,4 @@
--- How large the five values and the listed moves of an accepted script are.
+-- How large the five values and the listed moves of a playable script are.
 use Rattle.std.proofs.Common.{ℕ, ℤ, ◌≡◌, suc, ◌+◌, ◌-◌, ◌*◌, ◌^◌, ◌<◌, ◌≤◌, pos, ◌+ℤ◌, ◌-ℤ◌, ◌≤ℤ◌, Bool, true, false, cond, ◌||◌, List, [], ◌∷◌, length, Option, Some, None, slice_get, sym, ◌∙◌, ap, subst, arith}
 use Rattle.std.specs.Option.{option_or}
 use Rattle.std.proofs.lemmas.Int.{ints, clamps}
@@ -24,7 +24,7 @@ use Rattle.page_layers.specs.Wheels.{chain_parts, takes_at, chain_at}
 use Rattle.model_history.specs.Values.{values}
 use Rattle.model_history.specs.ScrollLaws.{carried_by, IsSmall, AreSmall}
 use Rattle.model_history.specs.FrameLaws.{AtEach}
-use Rattle.model_history.specs.Accepted.{IsAccepted}
+use Rattle.model_history.specs.Accepted.{IsPlayable}
 use Rattle.model_history.specs.Legal.{Legal}
 use Rattle.model_history.proofs.BoolFacts.{none_where}
 use Rattle.model_history.proofs.DueFacts.{entry, AtSend, at_send, AtCommit, at_commit, AtScroll, at_scroll, AtWheel, at_wheel, AtActivate, at_activate}
@@ -33,7 +33,7 @@ use Rattle.model_history.proofs.PastFacts.{none_in_flight}
 use Rattle.model_history.proofs.ValueSums.{Sums, sums}
 use Rattle.model_history.proofs.PageStanding.{pending_base_fits}
 use Rattle.model_history.proofs.Offsets.{Before, before, offset_is_value, offset_fits, takes_is}
-use Rattle.model_history.proofs.RangeBounds.{page_short, few_frames, sent_few}
+use Rattle.model_history.proofs.RangeBounds.{page_short, sent_few}
 
 -- an absolute value of at most m
 pub record Within (m : ℕ) (z : ℤ) : Type 0 where
@@ -52,14 +52,14 @@ in_its_range m z l e = record { low = omega (arith, ints, clamps, e); high = ome
 place : (m : ℕ) (z : ℤ) → m ≤ 1048576 → clamp_to m z ≡ z → IsPlace z
 place m z l e = let r = in_its_range m z l e in record { low = r.low; high = omega (arith, ints, r.high, l) }
 
--- in every legal past of an accepted script the offset and the pending base are such numbers
-pub offset_place : (s : ScriptModel) (n : ℕ) (h : List Entry) (sc : ℕ) (ax : Axis) → IsAccepted s → Legal s n h → IsPlace (offset s h sc ax)
+-- in every legal past of a playable script the offset and the pending base are such numbers
+pub offset_place : (s : ScriptModel) (n : ℕ) (h : List Entry) (sc : ℕ) (ax : Axis) → IsPlayable s → Legal s n h → IsPlace (offset s h sc ax)
 offset_place s n h sc ax a l = place (most (active_page s h) sc ax) (offset s h sc ax) (page_short s a (pulls_of h) (up_to (active h)) sc ax) (offset_fits s n h sc ax l)
 
-value_place : (s : ScriptModel) (n : ℕ) (h : List Entry) (sc : ℕ) (ax : Axis) → IsAccepted s → Legal s n h → IsPlace (table.active_value (values s sc ax h))
+value_place : (s : ScriptModel) (n : ℕ) (h : List Entry) (sc : ℕ) (ax : Axis) → IsPlayable s → Legal s n h → IsPlace (table.active_value (values s sc ax h))
 value_place s n h sc ax a l = subst IsPlace (offset_is_value s h sc ax (sums s n sc ax h l)) (offset_place s n h sc ax a l)
 
-pub base_place : (s : ScriptModel) (n : ℕ) (h : List Entry) (sc : ℕ) (ax : Axis) → IsAccepted s → Legal s n h → IsPlace (values s sc ax h).pending_base
+pub base_place : (s : ScriptModel) (n : ℕ) (h : List Entry) (sc : ℕ) (ax : Axis) → IsPlayable s → Legal s n h → IsPlace (values s sc ax h).pending_base
 base_place s n h sc ax a l =
     subst IsPlace (sym (sums s n sc ax h l).pending_base)
     (place (most (page s (pulls_of h) (up_to (active_then h))) sc ax) (pending_base s h sc ax) (page_short s a (pulls_of h) (up_to (active_then h)) sc ax) (pending_base_fits s n h sc ax l))
@@ -107,7 +107,7 @@ same_base s n h sc ax l e =
     let m = sums s n sc ax h l in
     m.active_base ∙ (sym (ap (λ o. base_of s h (option_or o (active h)) (λ k. names o k || was_named retires h k) sc ax) e) ∙ sym m.pending_base)
 
-one_step : (s : ScriptModel) (n : ℕ) (h : List Entry) (a : ℕ) (e : Event) (sc : ℕ) (ax : Axis) → IsAccepted s → Legal s n (entry a e ∷ h) → Near s sc ax h → Near s sc ax (entry a e ∷ h)
+one_step : (s : ScriptModel) (n : ℕ) (h : List Entry) (a : ℕ) (e : Event) (sc : ℕ) (ax : Axis) → IsPlayable s → Legal s n (entry a e ∷ h) → Near s sc ax h → Near s sc ax (entry a e ∷ h)
 one_step s n h a (event.Send k ms) sc ax acc l r =
     let v : Synced = values s sc ax h in
     record {
@@ -142,13 +142,13 @@ one_step s n h a (event.Scroll i dx dy) sc ax acc l r = record { near = r.near; 
 one_step s n h a (event.Wheel i layer rest_x rest_y ms) sc ax acc l r = record { near = r.near; told = r.told; waiting = r.waiting }
 one_step s n h a _ sc ax acc l r = r
 
-pub near : (s : ScriptModel) (n : ℕ) (sc : ℕ) (ax : Axis) (h : List Entry) → IsAccepted s → Legal s n h → Near s sc ax h
+pub near : (s : ScriptModel) (n : ℕ) (sc : ℕ) (ax : Axis) (h : List Entry) → IsPlayable s → Legal s n h → Near s sc ax h
 near s n sc ax [] acc l = record { near = zero_within 1048576; told = zero_within 0; waiting = zero_within 0 }
 near s n sc ax (e ∷ h) acc l = one_step s n h e.actor e.event sc ax acc l (near s n sc ax h acc l.0)
 
 -- the five values are within the bounds of every step
 
-bounded : (m : ℕ) (z : ℤ) → m < 2 ^ 39 → Within m z → IsBoundedNumber z
+bounded : (m : ℕ) (z : ℤ) → m < 2 ^ 58 → Within m z → IsBoundedNumber z
 bounded m z l w = record { above = omega (arith, ints, w.low, w.high, l); below = omega (arith, ints, w.low, w.high, l) }
 
 base_within : (b pb : ℤ) → IsPlace pb → Within 1048576 (b -ℤ pb) → Within 2097152 b
@@ -157,11 +157,11 @@ base_within b pb q n = record { low = omega (arith, ints, q.low, q.high, n.low, 
 place_within : (z : ℤ) → IsPlace z → Within 1048576 z
 place_within z q = record { low = omega (arith, ints, q.low, q.high); high = omega (arith, ints, q.low, q.high) }
 
-pub values_bounded : (s : ScriptModel) (n : ℕ) (h : List Entry) (sc : ℕ) (ax : Axis) → IsAccepted s → Legal s n h → IsBounded (values s sc ax h)
+pub values_bounded : (s : ScriptModel) (n : ℕ) (h : List Entry) (sc : ℕ) (ax : Axis) → IsPlayable s → Legal s n h → IsBounded (values s sc ax h)
 values_bounded s n h sc ax acc l =
     let v : Synced = values s sc ax h in
     let r : NearOf v (counted sends h) = near s n sc ax h acc l in
-    let few = few_frames s acc in
+    let few = acc.few_frames in
     let total = sent_few s n h l in
     let q : IsPlace v.pending_base = base_place s n h sc ax acc l in
     let o : IsPlace (v.active_base +ℤ v.active_delta) = value_place s n h sc ax acc l in
@@ -175,7 +175,7 @@ values_bounded s n h sc ax acc l =
 
 -- the moves that events list
 
-small : (m : ℕ) (z : ℤ) → m < 2 ^ 34 → Within m z → IsSmall z
+small : (m : ℕ) (z : ℤ) → m < 2 ^ 54 → Within m z → IsSmall z
 small m z l w = record { above = omega (arith, ints, w.low, w.high, l); below = omega (arith, ints, w.low, w.high, l) }
 
 small_if : (m : Move) (ms : List Move) (b : Bool) → IsSmall m.dx → IsSmall m.dy → AreSmall ms → AreSmall (cond b ms (m ∷ ms))
@@ -196,13 +196,13 @@ small_parts takes each (sc ∷ scs) dx dy =
 unsent_is : (d u m p : ℤ) → d ≡ (u +ℤ m) +ℤ p → m ≡ pos 0 → d -ℤ p ≡ u
 unsent_is d u m p e f = omega (arith, ints, e, f)
 
-unsent_small : (s : ScriptModel) (n : ℕ) (h : List Entry) (a k : ℕ) (ms : List Move) (sc : ℕ) (ax : Axis) → IsAccepted s → Legal s n (entry a (event.Send k ms) ∷ h) → IsSmall (unsent s h sc ax)
+unsent_small : (s : ScriptModel) (n : ℕ) (h : List Entry) (a k : ℕ) (ms : List Move) (sc : ℕ) (ax : Axis) → IsPlayable s → Legal s n (entry a (event.Send k ms) ∷ h) → IsSmall (unsent s h sc ax)
 unsent_small s n h a k ms sc ax acc l =
     let v : Synced = values s sc ax h in
     let m : Sums s sc ax h = sums s n sc ax h l.0 in
     let r : NearOf v (counted sends h) = near s n sc ax h acc l.0 in
     let t : AtSend s h k ms = at_send s n h a k ms l.1 in
-    let few = few_frames s acc in
+    let few = acc.few_frames in
     let total : suc (counted sends h) ≤ length s.main = sent_few s n (entry a (event.Send k ms) ∷ h) l in
     let idle : v.reflected_main ≡ pos 0 = m.reflected_main ∙ ap (λ o. carried_by s h o sc ax) (none_in_flight h (course s n h l.0) t.main) in
     let parts : v.active_delta ≡ (unsent s h sc ax +ℤ v.reflected_main) +ℤ v.reflected_pending =
@@ -212,18 +212,18 @@ unsent_small s n h a k ms sc ax acc l =
     small (2097152 * suc (counted sends h)) (unsent s h sc ax) (omega arith) (subst (Within (2097152 * suc (counted sends h))) (unsent_is v.active_delta (unsent s h sc ax) v.reflected_main v.reflected_pending parts idle) w)
 
 -- what an activation lists
-clamp_small : (t : ℕ) (new pb r at_then : ℤ) → t ≤ 4096 → IsPlace new → IsPlace pb → Within (2097152 * suc t) r → at_then ≡ pb +ℤ r → IsSmall (new -ℤ at_then)
+clamp_small : (t : ℕ) (new pb r at_then : ℤ) → t < 2 ^ 32 → IsPlace new → IsPlace pb → Within (2097152 * suc t) r → at_then ≡ pb +ℤ r → IsSmall (new -ℤ at_then)
 clamp_small t new pb r at_then l a b w e = record {
   above = omega (arith, ints, l, a.low, a.high, b.low, b.high, w.low, w.high, e);
   below = omega (arith, ints, l, a.low, a.high, b.low, b.high, w.low, w.high, e);
 }
 
-clamps_small : (s : ScriptModel) (n : ℕ) (h : List Entry) (k sc : ℕ) (ax : Axis) → IsAccepted s → Legal s n h → pending h ≡ Some k → IsSmall (clamp_move s h sc ax)
+clamps_small : (s : ScriptModel) (n : ℕ) (h : List Entry) (k sc : ℕ) (ax : Axis) → IsPlayable s → Legal s n h → pending h ≡ Some k → IsSmall (clamp_move s h sc ax)
 clamps_small s n h k sc ax acc l waits =
     let v : Synced = values s sc ax h in
     let r : NearOf v (counted sends h) = near s n sc ax h acc l in
     let b : Before s h k sc ax = before s n h k sc ax l waits in
-    let few = few_frames s acc in
+    let few = acc.few_frames in
     let total = sent_few s n h l in
     clamp_small (counted sends h) (pending_offset s h sc ax) v.pending_base (v.active_delta -ℤ v.reflected_pending) (offset_then s h sc ax) (omega arith)
     (place (most (pending_page s h) sc ax) (pending_offset s h sc ax) (page_short s acc (pulls_of h) (up_to (pending h)) sc ax) b.then_fits)
@@ -243,7 +243,7 @@ cond_small : (b : Bool) (z : ℤ) → IsSmall z → IsSmall (cond b z (pos 0))
 cond_small true z r = r
 cond_small false z r = zero_small
 
-taken_small : (s : ScriptModel) (n : ℕ) (h : List Entry) (sc : ℕ) (ax : Axis) (z : ℤ) → IsAccepted s → Legal s n h → IsSmall (amount_taken (active_page s h) (offset s h) sc ax z)
+taken_small : (s : ScriptModel) (n : ℕ) (h : List Entry) (sc : ℕ) (ax : Axis) (z : ℤ) → IsPlayable s → Legal s n h → IsSmall (amount_taken (active_page s h) (offset s h) sc ax z)
 taken_small s n h sc ax z acc l =
     cond_small (has_scroller (active_page s h) sc) (clamp_to (most (active_page s h) sc ax) (offset s h sc ax +ℤ z) -ℤ offset s h sc ax)
     (moved_small (most (active_page s h) sc ax) (offset s h sc ax) z (page_short s acc (pulls_of h) (up_to (active h)) sc ax) (offset_place s n h sc ax acc l))
@@ -256,7 +256,7 @@ scroll_small _ dx dy a b = tt
 abbrev pub ListsSmall : ScriptModel → Event → Type 0
 ListsSmall s e = AreSmall (pulls e) × AreSmall (moves s e)
 
-lists_small : (s : ScriptModel) (n : ℕ) (h : List Entry) (a : ℕ) (e : Event) → IsAccepted s → Legal s n (entry a e ∷ h) → ListsSmall s e
+lists_small : (s : ScriptModel) (n : ℕ) (h : List Entry) (a : ℕ) (e : Event) → IsPlayable s → Legal s n (entry a e ∷ h) → ListsSmall s e
 lists_small s n h a (event.Send k ms) acc l =
     let t : AtSend s h k ms = at_send s n h a k ms l.1 in
     (subst AreSmall (sym t.pulls) (small_listed (unsent s h) (λ sc ax. unsent_small s n h a k ms sc ax acc l) (scrollers_moved s h)), tt)
@@ -275,6 +275,6 @@ lists_small s n h a (event.Wheel i layer rest_x rest_y ms) acc l =
     )
 lists_small s n h a _ acc l = (tt, tt)
 
-pub all_small : (s : ScriptModel) (n : ℕ) (h : List Entry) → IsAccepted s → Legal s n h → AtEach (λ g e. AreSmall (pulls e.event) × AreSmall (moves s e.event)) h
+pub all_small : (s : ScriptModel) (n : ℕ) (h : List Entry) → IsPlayable s → Legal s n h → AtEach (λ g e. AreSmall (pulls e.event) × AreSmall (moves s e.event)) h
 all_small s n [] acc l = tt
 all_small s n (e ∷ h) acc l = (all_small s n h acc l.0, lists_small s n h e.actor e.event acc l)

@@ -17,7 +17,7 @@ use Rattle.page_layers.specs.declared.moves.Move.{Move}
 use Rattle.model_history.specs.Scripts.{ScriptModel}
 use Rattle.tile_visible.specs.Visible.{grid_of}
 use Rattle.model_history.specs.Frames.{commands_of, page}
-use Rattle.model_history.specs.Accepted.{IsAccepted}
+use Rattle.model_history.specs.Accepted.{IsPlayable}
 use Rattle.model_history.specs.Stamps.{unchanged, frame_changes, commits_to, place_rect, stamp_in}
 use Rattle.geom.specs.KeyLists.{has_key}
 use Rattle.model_history.specs.Tiles.{page_keys}
@@ -68,7 +68,7 @@ value_quiet test s (suc d) m lt = go (test (commit_at s (ahead d m))) refl lt (v
     go false e lt rest = let r : QuietFor test s d m × (last_value test s (ahead d m) ≡ last_value test s m) = rest lt in ((r.0, e), r.1)
 
 -- a layer that is there before and after frames that do not change what it shows in a rect
-pages_keep : (s : ScriptModel) → IsAccepted s → (layer : ℕ) (r : Rect) (d m : ℕ) → has_layer layer (plain s m).layers ≡ true → has_layer layer (plain s (ahead d m)).layers ≡ true
+pages_keep : (s : ScriptModel) → IsPlayable s → (layer : ℕ) (r : Rect) (d m : ℕ) → has_layer layer (plain s m).layers ≡ true → has_layer layer (plain s (ahead d m)).layers ≡ true
     → QuietFor (changes_in layer r) s d m → KeepsLayer layer r (plain s m) (plain s (ahead d m))
 pages_keep s a layer r zero m before last quiet = keeps_same layer r (plain s m)
 pages_keep s a layer r (suc d) m before last quiet =
@@ -132,7 +132,7 @@ pub record IsKept (s : ScriptModel) (q : TileKey) (m k : ℕ) : Type 0 where
   pub rect : key_rect (plain s k) q ≡ key_rect (plain s m) q
   pub keeps : KeepsLayer q.layer (key_rect (plain s m) q) (plain s m) (plain s k)
 
-pub key_between : (s : ScriptModel) → IsAccepted s → (q : TileKey) (e d m : ℕ) → plain_key s m q ≡ true → plain_key s (ahead e (ahead d m)) q ≡ true → IsKept s q m (ahead d m)
+pub key_between : (s : ScriptModel) → IsPlayable s → (q : TileKey) (e d m : ℕ) → plain_key s m q ≡ true → plain_key s (ahead e (ahead d m)) q ≡ true → IsKept s q m (ahead d m)
 key_between s a q e d zero first last = absurd (cc)
 key_between s a q e d (suc j) first last =
     let m : ℕ = suc j in
@@ -164,7 +164,7 @@ key_between s a q e d (suc j) first last =
 -- ---- pages with pulls
 
 -- the keys of a page do not depend on pulls
-pub keys_plain : (s : ScriptModel) → IsAccepted s → (ps : ℕ → List Move) (n : ℕ) (q : TileKey) → has_key (page_keys (page s ps n) (stamp_in s ps n)) q ≡ plain_key s n q
+pub keys_plain : (s : ScriptModel) → IsPlayable s → (ps : ℕ → List Move) (n : ℕ) (q : TileKey) → has_key (page_keys (page s ps n) (stamp_in s ps n)) q ≡ plain_key s n q
 keys_plain s a ps n q =
     let same : bare (page s ps n) ≡ bare (plain s n) = page_bare s ps n in
     key_of_page (page s ps n) (stamp_in s ps n) q (subst (λ (z : Page). AreDistinctLayers z.layers) (sym same) (plain_page s a n).distinct)

@@ -20,7 +20,7 @@ use Rattle.page_layers.proofs.FoundLayers.{found-insert, found-other, found-here
 use Rattle.page_layers.proofs.TestFacts.{passed, held}
 use Rattle.model_history.specs.Scripts.{ScriptModel}
 use Rattle.model_history.specs.Frames.{commands_of}
-use Rattle.model_history.specs.Accepted.{TakesAll, IsAccepted}
+use Rattle.model_history.specs.Accepted.{TakesAll, IsPlayable}
 use Rattle.model_history.proofs.BoolFacts.{not_true, not_both, none_or_some}
 use Rattle.model_history.proofs.ScriptPages.{page_after, ahead, plain, plain_takes, plain_page}
 
@@ -100,7 +100,7 @@ gone_commanded : (cs : List Command) (p : Page) (id : ℕ) → IsPage p → Take
 gone_commanded [] p id is t g = g
 gone_commanded (c ∷ cs) p id is t g = gone_commanded cs (page_after_command p c) id (page_after p c is t.0) t.1 (gone_after p c id is t.0 g)
 
-gone_plain : (s : ScriptModel) → IsAccepted s → (id d m : ℕ) → IsGone id (plain s m) → IsGone id (plain s (ahead d m))
+gone_plain : (s : ScriptModel) → IsPlayable s → (id d m : ℕ) → IsGone id (plain s m) → IsGone id (plain s (ahead d m))
 gone_plain s a id zero m g = g
 gone_plain s a id (suc d) m g = gone_commanded (commands_of s (ahead d m)) (plain s (ahead d m)) id (plain_page s a (ahead d m)) (plain_takes s a (ahead d m)) (gone_plain s a id d m g)
 
@@ -123,7 +123,7 @@ there_between c cs p id is t before last =
     (gone_commanded cs (page_after_command p c) id (page_after p c is t.0) t.1 (record { used = used_after p c id (there_used p id is before); none = out })).none)
 
 -- a layer of two pages is one of each page between
-pub layer_between : (s : ScriptModel) → IsAccepted s → (id e d m : ℕ) → has_layer id (plain s m).layers ≡ true → has_layer id (plain s (ahead e (ahead d m))).layers ≡ true → has_layer id (plain s (ahead d m)).layers ≡ true
+pub layer_between : (s : ScriptModel) → IsPlayable s → (id e d m : ℕ) → has_layer id (plain s m).layers ≡ true → has_layer id (plain s (ahead e (ahead d m))).layers ≡ true → has_layer id (plain s (ahead d m)).layers ≡ true
 layer_between s a id e d m before last =
     not_gone (has_layer id (plain s (ahead d m)).layers)
     (λ out. not_both (has_layer id (plain s (ahead e (ahead d m))).layers) last

@@ -29,6 +29,7 @@ pub mod DueRows
 pub mod LockstepWords
 pub mod BarePages
 pub mod Rooms
+pub mod GrownPlays
 pub mod FindKeys
 pub mod ScriptPages
 pub mod LayersStay

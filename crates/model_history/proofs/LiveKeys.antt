@@ -8,7 +8,7 @@ use Rattle.model_history.specs.declared.event.Event.TheVariants as event
 use Rattle.model_history.specs.declared.history.Entry.{Entry}
 use Rattle.model_history.specs.Scripts.{ScriptModel}
 use Rattle.model_history.specs.Frames.{pulls_of, active, pending, up_to}
-use Rattle.model_history.specs.Accepted.{IsAccepted}
+use Rattle.model_history.specs.Accepted.{IsPlayable}
 use Rattle.model_history.specs.Scrolls.{active_then}
 use Rattle.geom.specs.KeyLists.{same_key, has_key}
 use Rattle.model_history.specs.Tiles.{keys_of, active_tree, pending_tree, live_keys}
@@ -29,13 +29,13 @@ abbrev was_at : ScriptModel → List Entry → TileKey → Bool
 was_at s [] q = live_at s [] q
 was_at s (e ∷ h) q = live_at s (e ∷ h) q || was_at s h q
 
-live_is : (s : ScriptModel) → IsAccepted s → (h : List Entry) (q : TileKey) → has_key (live_keys s h) q ≡ live_at s h q
+live_is : (s : ScriptModel) → IsPlayable s → (h : List Entry) (q : TileKey) → has_key (live_keys s h) q ≡ live_at s h q
 live_is s a h q =
     list_any-append (λ k. same_key k q) (keys_of (active_tree s h)) (keys_of (pending_tree s h))
     ∙ ap (λ (b : Bool). b || has_key (keys_of (pending_tree s h)) q) (keys_plain s a (pulls_of h) (up_to (active h)) q)
     ∙ ap (λ (b : Bool). plain_key s (up_to (active h)) q || b) (keys_plain s a (pulls_of h) (up_to (pending h)) q)
 
-was_is : (s : ScriptModel) → IsAccepted s → (h : List Entry) (q : TileKey) → was_live s h q ≡ was_at s h q
+was_is : (s : ScriptModel) → IsPlayable s → (h : List Entry) (q : TileKey) → was_live s h q ≡ was_at s h q
 was_is s a [] q = live_is s a [] q
 was_is s a (e ∷ h) q = ap (λ (b : Bool). b || was_live s h q) (live_is s a (e ∷ h) q) ∙ ap (λ (b : Bool). live_at s (e ∷ h) q || b) (was_is s a h q)
 
@@ -110,7 +110,7 @@ no_key : (s : ScriptModel) (q : TileKey) → plain_key s zero q ≡ false
 no_key s q = refl
 
 -- a key of the committed page that was live before is one of the active page
-at_the_commit : (s : ScriptModel) → IsAccepted s → (h g : List Entry) (q : TileKey) → Course g → active g ≡ active h → Reached s (up_to (active h)) q → (o : Option ℕ) → pending g ≡ o → plain_key s (up_to o) q ≡ true → plain_key s (up_to (active h)) q ≡ true
+at_the_commit : (s : ScriptModel) → IsPlayable s → (h g : List Entry) (q : TileKey) → Course g → active g ≡ active h → Reached s (up_to (active h)) q → (o : Option ℕ) → pending g ≡ o → plain_key s (up_to o) q ≡ true → plain_key s (up_to (active h)) q ≡ true
 at_the_commit s a h g q c same r None e key = absurd (cc)
 at_the_commit s a h g q c same r (Some k) e key =
     let (i, le, first) = r in
@@ -118,7 +118,7 @@ at_the_commit s a h g q c same r (Some k) e key =
     let from_h : up_to (active h) ≤ k = subst (λ (o : Option ℕ). up_to o ≤ k) same from in
     (kept s a q i (up_to (active h)) (suc k) le (omega (arith, from_h)) first key).key
 
-live_step : (s : ScriptModel) (n : ℕ) → IsAccepted s → (h : List Entry) (q : TileKey) (a : ℕ) (e : Event) → Course h → Course (entry a e ∷ h) → Next s n h (entry a e) → Reached s (top h) q → live_at s (entry a e ∷ h) q ≡ true → live_at s h q ≡ true
+live_step : (s : ScriptModel) (n : ℕ) → IsPlayable s → (h : List Entry) (q : TileKey) (a : ℕ) (e : Event) → Course h → Course (entry a e ∷ h) → Next s n h (entry a e) → Reached s (top h) q → live_at s (entry a e ∷ h) q ≡ true → live_at s h q ≡ true
 live_step s n ok h q a (event.Commit k) c d x r live = go (or_either (plain_key s (up_to (active h)) q) (plain_key s (up_to (pending (entry a (event.Commit k) ∷ h))) q) live)
   where
     to_active : Reached s (up_to (active h)) q
@@ -141,7 +141,7 @@ live_step s n ok h q a (event.Activate k ms) c d x r live = go (or_either (plain
 live_step s n ok h q a _ c d x r live = live
 
 -- what was live and is live after an entry was live before it
-pub still_live : (s : ScriptModel) (workers : ℕ) (h : List Entry) (e : Entry) (q : TileKey) → IsAccepted s → Legal s workers (e ∷ h) → was_live s h q ≡ true → has_key (live_keys s (e ∷ h)) q ≡ true → has_key (live_keys s h) q ≡ true
+pub still_live : (s : ScriptModel) (workers : ℕ) (h : List Entry) (e : Entry) (q : TileKey) → IsPlayable s → Legal s workers (e ∷ h) → was_live s h q ≡ true → has_key (live_keys s (e ∷ h)) q ≡ true → has_key (live_keys s h) q ≡ true
 still_live s n h e q a l was live =
     live_is s a h q ∙ live_step s n a h q e.actor e.event (course s n h l.0) (course s n (e ∷ h) l) l.1 (reached s n h q l.0 (sym (was_is s a h q) ∙ was)) (sym (live_is s a (e ∷ h) q) ∙ live)
 
@@ -155,11 +155,11 @@ live_was : (s : ScriptModel) (h : List Entry) (q : TileKey) → has_key (live_ke
 live_was s [] q live = live
 live_was s (e ∷ h) q live = or_left (has_key (live_keys s (e ∷ h)) q) (was_live s h q) live
 
-dead_from : (s : ScriptModel) (workers : ℕ) (later h : List Entry) (q : TileKey) → IsAccepted s → Legal s workers (later ++ h) → was_live s h q ≡ true → has_key (live_keys s h) q ≡ false → has_key (live_keys s (later ++ h)) q ≡ false
+dead_from : (s : ScriptModel) (workers : ℕ) (later h : List Entry) (q : TileKey) → IsPlayable s → Legal s workers (later ++ h) → was_live s h q ≡ true → has_key (live_keys s h) q ≡ false → has_key (live_keys s (later ++ h)) q ≡ false
 dead_from s n [] h q a l was dead = dead
 dead_from s n (e ∷ later) h q a l was dead =
     is_false (has_key (live_keys s (e ∷ (later ++ h))) q)
     (λ live. not_both (has_key (live_keys s (later ++ h)) q) (still_live s n (later ++ h) e q a l (was_later s later h q was) live) (dead_from s n later h q a l.0 was dead))
 
-pub stays_dead : (s : ScriptModel) (workers : ℕ) (later between h : List Entry) (q : TileKey) → IsAccepted s → Legal s workers (later ++ (between ++ h)) → has_key (live_keys s h) q ≡ true → has_key (live_keys s (between ++ h)) q ≡ false → has_key (live_keys s (later ++ (between ++ h))) q ≡ false
+pub stays_dead : (s : ScriptModel) (workers : ℕ) (later between h : List Entry) (q : TileKey) → IsPlayable s → Legal s workers (later ++ (between ++ h)) → has_key (live_keys s h) q ≡ true → has_key (live_keys s (between ++ h)) q ≡ false → has_key (live_keys s (later ++ (between ++ h))) q ≡ false
 stays_dead s n later between h q a l live dead = dead_from s n later (between ++ h) q a l (was_later s between h q (live_was s h q live)) dead

@@ -14,7 +14,7 @@ use Rattle.model_history.specs.Scripts.{ScriptModel}
 use Rattle.page_layers.specs.Axes.{Axis, across, down, amount_in, named_in}
 use Rattle.page_layers.specs.Scrollers.{scrollers, main_value}
 use Rattle.model_history.specs.Frames.{commands_of, page, page_before, main_move, changes, is_empty}
-use Rattle.model_history.specs.Accepted.{TakesAll, TakesFrames, IsAccepted}
+use Rattle.model_history.specs.Accepted.{TakesAll, TakesFrames, IsPlayable}
 
 -- a page depends on the pulls of the frames before it alone
 pub page_alike : (s : ScriptModel) (ps qs : ℕ → List Move) (n : ℕ) → ((k : ℕ) → k < n → ps k ≡ qs k) → page s ps n ≡ page s qs n
@@ -96,7 +96,7 @@ takes_values [] p vs t = tt
 takes_values (c ∷ cs) p vs t =
     (accepts_values p vs c t.0, subst (λ (q : Page). TakesAll q cs) (sym (after_values p vs c)) (takes_values cs (page_after_command p c) (page_after_command (with_values p vs) c).values t.1))
 
--- pages without pulls take the commands of an accepted script
+-- pages without pulls take the commands of a playable script
 
 takes_first : (p : Page) (fs : List (List Command)) (k : ℕ) → TakesFrames p (drop k fs) → TakesAll p (slice_index_or fs k [])
 takes_first p [] k t = tt
@@ -108,12 +108,12 @@ takes_rest p [] k t = tt
 takes_rest p (f ∷ fs) zero t = t.1
 takes_rest p (f ∷ fs) (suc k) t = takes_rest p fs k t
 
-takes_from : (s : ScriptModel) → IsAccepted s → (k : ℕ) → TakesFrames (page s (λ _. []) k) (drop k s.main)
+takes_from : (s : ScriptModel) → IsPlayable s → (k : ℕ) → TakesFrames (page s (λ _. []) k) (drop k s.main)
 takes_from s a zero = a.commands
 takes_from s a (suc k) = takes_rest (page s (λ _. []) k) s.main k (takes_from s a k)
 
--- each frame of an accepted script is taken, whatever was pulled
-pub takes_frame : (s : ScriptModel) → IsAccepted s → (ps : ℕ → List Move) (k : ℕ) → TakesAll (page_before s ps k) (commands_of s k)
+-- each frame of a playable script is taken, whatever was pulled
+pub takes_frame : (s : ScriptModel) → IsPlayable s → (ps : ℕ → List Move) (k : ℕ) → TakesAll (page_before s ps k) (commands_of s k)
 takes_frame s a ps k =
     let t : TakesAll (page s (λ _. []) k) (commands_of s k) = takes_first (page s (λ _. []) k) s.main k (takes_from s a k) in
     subst (λ (p : Page). TakesAll p (commands_of s k)) (sym (page_before_values s ps (λ _. []) k)) (takes_values (commands_of s k) (page s (λ _. []) k) (page_before s ps k).values t)

@@ -1,4 +1,4 @@
--- The scrollers of pages: each main value is in its range, scrollers stay, and the ranges of an accepted script are bounded.
+-- The scrollers of pages: each main value is in its range, and scrollers stay.
 use Rattle.std.proofs.Common.{◌≡◌, ℕ, zero, suc, ◌≤◌, ℤ, pos, ◌+ℤ◌, Bool, true, false, cond, ◌==◌, List, [], ◌∷◌, Option, Some, None, is_some, option_map, refl, sym, ◌∙◌, subst, arith}
 use Rattle.std.proofs.lemmas.Int.{ints, clamps}
 use Rattle.geom.specs.declared.rect.Point.{Point}

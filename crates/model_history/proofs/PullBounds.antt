@@ -10,7 +10,7 @@ use Rattle.model_history.specs.Scans.{names}
 use Rattle.model_history.specs.Frames.{pulls_of}
 use Rattle.model_history.specs.ScrollLaws.{IsSmall, AreSmall}
 use Rattle.model_history.specs.FrameLaws.{AtEach}
-use Rattle.model_history.specs.Accepted.{IsAccepted}
+use Rattle.model_history.specs.Accepted.{IsPlayable}
 use Rattle.model_history.specs.Legal.{Legal}
 use Rattle.model_history.specs.Ended.{AreBounded}
 use Rattle.model_history.proofs.Bounds.{all_small}
@@ -30,5 +30,5 @@ sent_bounded : (s : ScriptModel) (h : List Entry) → AtEach (λ g e. AreSmall (
 sent_bounded s [] each k = tt
 sent_bounded s (e ∷ h) each k = either_bounded (names (sends e.event) k) (pulls e.event) (pulls_of h k) (moves_bounded (pulls e.event) each.1.0) (sent_bounded s h each.0 k)
 
-pub pulls_bounded : (s : ScriptModel) (workers : ℕ) (h : List Entry) (k : ℕ) → IsAccepted s → Legal s workers h → AreBounded (pulls_of h k)
+pub pulls_bounded : (s : ScriptModel) (workers : ℕ) (h : List Entry) (k : ℕ) → IsPlayable s → Legal s workers h → AreBounded (pulls_of h k)
 pulls_bounded s workers h k a l = sent_bounded s h (all_small s workers h a l) k

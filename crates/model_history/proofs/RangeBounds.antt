@@ -1,6 +1,5 @@
--- The ranges of the pages of an accepted script end at 2^20 at most, and such a script has few main frames.
-use Rattle.std.proofs.Common.{ℕ, ◌≡◌, zero, suc, ◌≤◌, ◌==◌, ◌&&◌, nat_le, nat_lt, Bool, true, false, cond, List, [], ◌∷◌, length, Option, Some, None, option_map, Ok, sym, subst, arith}
-use Rattle.std.specs.List.{list_all}
+-- The ranges of the pages of a playable script end at 2^20 at most, and no more main frames are sent than there are.
+use Rattle.std.proofs.Common.{ℕ, ◌≡◌, zero, suc, ◌≤◌, ◌==◌, nat_lt, Bool, true, false, cond, List, [], ◌∷◌, length, Option, Some, None, option_map, Ok, sym, subst, arith}
 use Rattle.std.proofs.lemmas.Bool.Decides.{nat_tests}
 use Rattle.page_properties.specs.declared.nodes.ScrollNode.{ScrollNode}
 use Rattle.page_properties.specs.Entries.{find, knows, is_known}
@@ -18,15 +17,14 @@ use Rattle.model_history.specs.declared.event.Event.TheVariants as event
 use Rattle.page_layers.specs.declared.moves.Move.{Move}
 use Rattle.model_history.specs.declared.history.Entry.{Entry}
 use Rattle.model_history.specs.Scripts.{ScriptModel}
-use Rattle.model_history.specs.Ranges.{head_in_range, main_in_range, inputs_in_range, is_in_ranges, command_in_range}
 use Rattle.model_history.specs.EventFields.{sends}
 use Rattle.model_history.specs.Scans.{counted}
 use Rattle.page_layers.specs.Axes.{Axis, across, down}
 use Rattle.page_layers.specs.Scrollers.{end_of, most}
 use Rattle.model_history.specs.Frames.{commands_of, page, page_before}
-use Rattle.model_history.specs.Accepted.{TakesAll, IsAccepted}
+use Rattle.model_history.specs.Accepted.{TakesAll, IsPlayable}
 use Rattle.model_history.specs.Legal.{Next, Legal}
-use Rattle.model_history.proofs.BoolFacts.{by_test, and_left, and_right, same_number, other_number}
+use Rattle.model_history.proofs.BoolFacts.{by_test, same_number, other_number}
 use Rattle.model_history.proofs.DueFacts.{entry, at_send}
 use Rattle.model_history.proofs.NodeFacts.{find_changed, find_other}
 use Rattle.model_history.proofs.PageFacts.{takes_frame}
@@ -87,26 +85,12 @@ commanded_short : (cs : List Command) (p : Page) → AreShort p → TakesAll p c
 commanded_short [] p r t = r
 commanded_short (c ∷ cs) p r t = commanded_short cs (page_after_command p c) (after_short p c r t.0.passes) t.1
 
--- all pages of an accepted script have such ranges
-pub page_short : (s : ScriptModel) → IsAccepted s → (ps : ℕ → List Move) (n : ℕ) → AreShort (page s ps n)
+-- all pages of a playable script have such ranges
+pub page_short : (s : ScriptModel) → IsPlayable s → (ps : ℕ → List Move) (n : ℕ) → AreShort (page s ps n)
 page_short s a ps zero = λ sc ax. omega arith
 page_short s a ps (suc n) =
     let r : AreShort (page s ps n) = page_short s a ps n in
     commanded_short (commands_of s n) (page_before s ps n) (λ sc ax. subst (λ z. z ≤ 1048576) (sym (pulled_most (ps n) (page s ps n) sc ax)) (r sc ax)) (takes_frame s a ps n)
-
--- an accepted script has at most 4096 main frames
-
-main_range : (s : ScriptModel) → is_in_ranges s ≡ true → nat_le (length s.main) 4096 ≡ true
-unfolding is_in_ranges
-main_range s e =
-    and_left (nat_le (length s.main) 4096) (list_all (list_all (command_in_range s.version)) s.main)
-    (and_right (head_in_range s) (main_in_range s.version s.main) (and_left (head_in_range s && main_in_range s.version s.main) (inputs_in_range (length s.main) s.inputs) e))
-
-at_most : (n : ℕ) → nat_le n 4096 ≡ true → n ≤ 4096
-at_most n e = grind (arith, nat_tests, e)
-
-pub few_frames : (s : ScriptModel) → IsAccepted s → length s.main ≤ 4096
-few_frames s a = at_most (length s.main) (main_range s a.ranges)
 
 -- no more frames are sent than there are
 

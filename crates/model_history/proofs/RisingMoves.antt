@@ -22,7 +22,7 @@ use Rattle.model_history.specs.Frames.{commands_of, page, page_before, pulls_of,
 use Rattle.model_history.specs.Scrolls.{scrollers_moved, unsent, next_pulls, clamp_move, next_clamps}
 use Rattle.model_history.specs.ScrollLaws.{clamps, AreRising}
 use Rattle.model_history.specs.FrameLaws.{AtEach}
-use Rattle.model_history.specs.Accepted.{TakesAll, IsAccepted}
+use Rattle.model_history.specs.Accepted.{TakesAll, IsPlayable}
 use Rattle.model_history.specs.Legal.{Next, Legal}
 use Rattle.model_history.proofs.BoolFacts.{or_left_false, or_right_false}
 use Rattle.model_history.proofs.DueFacts.{entry, at_send, at_activate}
@@ -96,22 +96,22 @@ pulled_distinct : (ms : List Move) (p : Page) → HasDistinct p → HasDistinct 
 pulled_distinct [] p d = d
 pulled_distinct (m ∷ ms) p d = pulled_distinct ms (scrolled_by p m.scroller m.dx m.dy) d
 
-pub page_distinct : (s : ScriptModel) → IsAccepted s → (ps : ℕ → List Move) (n : ℕ) → AreDistinctIds (page s ps n).props.scrollers
+pub page_distinct : (s : ScriptModel) → IsPlayable s → (ps : ℕ → List Move) (n : ℕ) → AreDistinctIds (page s ps n).props.scrollers
 page_distinct s a ps zero = tt
 page_distinct s a ps (suc n) = commanded_distinct (commands_of s n) (page_before s ps n) (pulled_distinct (ps n) (page s ps n) (page_distinct s a ps n)) (takes_frame s a ps n)
 
 -- activations
 
-pub clamps_rise : (s : ScriptModel) (h : List Entry) → IsAccepted s → AreRising (next_clamps s h)
+pub clamps_rise : (s : ScriptModel) (h : List Entry) → IsPlayable s → AreRising (next_clamps s h)
 clamps_rise s h a = rising_listed (clamp_move s h) (scrollers (pending_page s h)) (rising_ids (pending_page s h).props.scrollers (page_distinct s a (pulls_of h) (up_to (pending h))))
 
 -- every entry
 
-lists_rise : (s : ScriptModel) (n : ℕ) (h : List Entry) (a : ℕ) (e : Event) → IsAccepted s → Next s n h (entry a e) → AreRising (pulls e) × AreRising (clamps e)
+lists_rise : (s : ScriptModel) (n : ℕ) (h : List Entry) (a : ℕ) (e : Event) → IsPlayable s → Next s n h (entry a e) → AreRising (pulls e) × AreRising (clamps e)
 lists_rise s n h a (event.Send k ms) acc x = (subst AreRising (sym (at_send s n h a k ms x).pulls) (pulls_rise s h), tt)
 lists_rise s n h a (event.Activate k ms) acc x = (tt, subst AreRising (sym (at_activate s n h a k ms x).clamps) (clamps_rise s h acc))
 lists_rise s n h a _ acc x = (tt, tt)
 
-pub all_rise : (s : ScriptModel) (n : ℕ) (h : List Entry) → IsAccepted s → Legal s n h → AtEach (λ g e. AreRising (pulls e.event) × AreRising (clamps e.event)) h
+pub all_rise : (s : ScriptModel) (n : ℕ) (h : List Entry) → IsPlayable s → Legal s n h → AtEach (λ g e. AreRising (pulls e.event) × AreRising (clamps e.event)) h
 all_rise s n [] acc l = tt
 all_rise s n (e ∷ h) acc l = (all_rise s n h acc l.0, lists_rise s n h e.actor e.event acc l.1)

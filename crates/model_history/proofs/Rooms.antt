@@ -28,7 +28,7 @@ and_true : (a : Bool) → (a && true) ≡ a
 and_true true = refl
 and_true false = refl
 
-all_and_last : {A : Type 0} (f : A → Bool) (xs : List A) (x : A) → list_all f (xs ++ x ∷ []) ≡ (list_all f xs && f x)
+pub all_and_last : {A : Type 0} (f : A → Bool) (xs : List A) (x : A) → list_all f (xs ++ x ∷ []) ≡ (list_all f xs && f x)
 all_and_last f [] x = and_true (f x)
 all_and_last f (y ∷ xs) x = ap (λ b. f y && b) (all_and_last f xs x) ∙ and_assoc (f y) (list_all f xs) (f x)
 
@@ -103,7 +103,7 @@ still_fits n m l (Await frame) t = and_both (is_u32 frame) (nat_lt frame m) (and
     further k n m l t = grind (arith, nat_tests, l, t)
 still_fits n m l Settle t = t
 
-all_fit_still : (n m : ℕ) → n ≤ m → (xs : List Input) → list_all (input_in_range n) xs ≡ true → list_all (input_in_range m) xs ≡ true
+pub all_fit_still : (n m : ℕ) → n ≤ m → (xs : List Input) → list_all (input_in_range n) xs ≡ true → list_all (input_in_range m) xs ≡ true
 all_fit_still n m l [] t = refl
 all_fit_still n m l (x ∷ xs) t = and_both (input_in_range m x) (list_all (input_in_range m) xs) (still_fits n m l x (and_left (input_in_range n x) (list_all (input_in_range n) xs) t)) (all_fit_still n m l xs (and_right (input_in_range n x) (list_all (input_in_range n) xs) t))
 
@@ -150,7 +150,7 @@ commands_fit s cs t fit =
     and_both _ _ (and_both _ _ (and_left (head_in_range s) (main_in_range s.version s.main) start) (and_both _ _ count each)) (ap (λ n. inputs_in_range n s.inputs) (as_many cs s.main) ∙ own)
 
 -- the page after the first of these main frames, in the given number
-abbrev after_first : ℕ → List (List Command) → Page → Page
+abbrev pub after_first : ℕ → List (List Command) → Page → Page
 after_first zero fs p = p
 after_first (suc k) fs p = commanded (slice_index_or fs k []) (after_first k fs p)
 
@@ -158,11 +158,11 @@ first_then : (k : ℕ) (f : List Command) (fs : List (List Command)) (p : Page) 
 first_then zero f fs p = refl
 first_then (suc k) f fs p = ap (commanded (slice_index_or fs k [])) (first_then k f fs p)
 
-unpulled : (s : ScriptModel) (k : ℕ) → page s (λ _. []) k ≡ after_first k s.main (blank s)
+pub unpulled : (s : ScriptModel) (k : ℕ) → page s (λ _. []) k ≡ after_first k s.main (blank s)
 unpulled s zero = refl
 unpulled s (suc k) = ap (commanded (commands_of s k)) (unpulled s k)
 
-last_taken : (cs : List Command) (fs : List (List Command)) (p : Page) (k : ℕ) → suc k ≡ length fs → TakesFrames p fs → TakesAll (after_first k fs p) cs → TakesFrames p (with_last cs fs)
+pub last_taken : (cs : List Command) (fs : List (List Command)) (p : Page) (k : ℕ) → suc k ≡ length fs → TakesFrames p fs → TakesAll (after_first k fs p) cs → TakesFrames p (with_last cs fs)
 last_taken cs [] p k e t a = tt
 last_taken cs (f ∷ []) p zero e t a = (a, tt)
 last_taken cs (f ∷ []) p (suc k) e t a = absurd (omega (arith, e))
@@ -174,7 +174,7 @@ last_taken cs (f ∷ g ∷ fs) p (suc k) e t a = (t.0, last_taken cs (g ∷ fs) 
 pub accepted_input : (s : ScriptModel) (x : Input) → IsAccepted s → is_in_ranges (with_input s x) ≡ true → IsAccepted (with_input s x)
 accepted_input s x a t = record { ranges = t; commands = a.commands }
 
-one_frame_more : (fs : List (List Command)) (p : Page) → TakesFrames p fs → TakesFrames p (fs ++ [] ∷ [])
+pub one_frame_more : (fs : List (List Command)) (p : Page) → TakesFrames p fs → TakesFrames p (fs ++ [] ∷ [])
 one_frame_more [] p t = (tt, tt)
 one_frame_more (f ∷ fs) p t = (t.0, one_frame_more fs (commanded f p) t.1)
 

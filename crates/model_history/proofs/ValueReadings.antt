@@ -14,7 +14,7 @@ use Rattle.model_history.specs.Frames.{pulls_of, active, pending, up_to, active_
 use Rattle.model_history.specs.Scrolls.{delta_of, delta, offset, offset_then, pending_base, pending_offset, clobbers, retired_then, unsent}
 use Rattle.model_history.specs.Values.{values}
 use Rattle.model_history.specs.ScrollLaws.{carried_by, frame_in_flight}
-use Rattle.model_history.specs.Accepted.{IsAccepted}
+use Rattle.model_history.specs.Accepted.{IsPlayable}
 use Rattle.model_history.specs.Legal.{Legal}
 use Rattle.page_layers.proofs.NodeKeeps.{clamp_again}
 use Rattle.model_history.proofs.ValueSums.{Sums, sums}
@@ -62,7 +62,7 @@ unsent_is_value s n h sc ax l e =
 
 -- both stand in the ranges of their pages
 
-pub offset_in_range : (s : ScriptModel) (n : ℕ) (h : List Entry) (sc : ℕ) (ax : Axis) → IsAccepted s → Legal s n h → IsInRange (most (active_page s h) sc ax) (offset s h sc ax)
+pub offset_in_range : (s : ScriptModel) (n : ℕ) (h : List Entry) (sc : ℕ) (ax : Axis) → IsPlayable s → Legal s n h → IsInRange (most (active_page s h) sc ax) (offset s h sc ax)
 offset_in_range s n h sc ax a l = in_its_range (most (active_page s h) sc ax) (offset s h sc ax) (page_short s a (pulls_of h) (up_to (active h)) sc ax) (offset_fits s n h sc ax l)
 
 pending_fits : (s : ScriptModel) (n : ℕ) (h : List Entry) (sc : ℕ) (ax : Axis) (o : Option ℕ) → Legal s n h → pending h ≡ o → clamp_to (most (pending_page s h) sc ax) (pending_offset s h sc ax) ≡ pending_offset s h sc ax
@@ -72,5 +72,5 @@ pending_fits s n h sc ax None l e =
     ap (clamp_to m) i ∙ (clamp_again m (offset_then s h sc ax) ∙ sym i)
 pending_fits s n h sc ax (Some k) l e = (before s n h k sc ax l e).then_fits
 
-pub pending_in_range : (s : ScriptModel) (n : ℕ) (h : List Entry) (sc : ℕ) (ax : Axis) → IsAccepted s → Legal s n h → IsInRange (most (pending_page s h) sc ax) (pending_offset s h sc ax)
+pub pending_in_range : (s : ScriptModel) (n : ℕ) (h : List Entry) (sc : ℕ) (ax : Axis) → IsPlayable s → Legal s n h → IsInRange (most (pending_page s h) sc ax) (pending_offset s h sc ax)
 pending_in_range s n h sc ax a l = in_its_range (most (pending_page s h) sc ax) (pending_offset s h sc ax) (page_short s a (pulls_of h) (up_to (pending h)) sc ax) (pending_fits s n h sc ax (pending h) l refl)

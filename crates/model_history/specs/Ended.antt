@@ -16,7 +16,7 @@ use Rattle.model_history.specs.Judging.{RefusedIn}
 use Rattle.model_history.specs.Stamps.{changed_by, unchanged}
 use Rattle.model_history.specs.SameChanges.{SameChanges}
 
--- both parts of each pull are below 2^39 in absolute value
+-- both parts of each pull are below 2^58 in absolute value
 abbrev pub AreBounded : List Move → Type 0
 AreBounded [] = Unit {0}
 AreBounded (m ∷ ms) = IsBoundedNumber m.dx × IsBoundedNumber m.dy × AreBounded ms

@@ -38,10 +38,10 @@ pub record AreSums (s : ScriptModel) (h : List Entry) (sc : ℕ) (ax : Axis) (v 
   pub reflected_main : v.reflected_main ≡ carried_by s h (frame_in_flight h) sc ax
   pub reflected_pending : v.reflected_pending ≡ carried_by s h (pending h) sc ax
 
--- a number whose absolute value is below 2^34
+-- a number whose absolute value is below 2^54
 pub record IsSmall (z : ℤ) : Type 0 where
-  pub above : negsuc (2 ^ 34 - 1) <ℤ z
-  pub below : z <ℤ pos (2 ^ 34)
+  pub above : negsuc (2 ^ 54 - 1) <ℤ z
+  pub below : z <ℤ pos (2 ^ 54)
 
 -- each part of each move of a list is such a number
 abbrev pub AreSmall : List Move → Type 0

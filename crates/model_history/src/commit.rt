@@ -2,7 +2,7 @@
 
 ghost use Rattle.std.specs.Prelude.{◌≡◌};
 ghost use Rattle.model_history.specs.Commits.{IsCommit};
-ghost use Rattle.model_history.specs.Accepted.{IsAccepted};
+ghost use Rattle.model_history.specs.Accepted.{IsPlayable};
 
 use crate::moves::Moves;
 use crate::script::Script;
@@ -42,11 +42,11 @@ impl Model for Commit {
 }
 
 impl Commit {
-    /// Its tree and its changes are those of its frame, and its script is accepted. A law that does
+    /// Its tree and its changes are those of its frame, and its script can be played. A law that does
     /// nothing when it runs.
     pub fn is_commit(&self)
         ensures commit { IsCommit self.now }
-        ensures script { IsAccepted self.now.script }
+        ensures script { IsPlayable self.now.script }
     {
         self.script.is_accepted();
     }

@@ -90,7 +90,7 @@ fn take_commands(
 /// range, then applies the commands in order. Answers what the commands changed together; a layer that
 /// one of them removed is not listed for what came before.
 ///
-/// The parts of a pull are below 2^39 in absolute value; one of a scroller that the tree lacks does nothing.
+/// The parts of a pull are below 2^58 in absolute value; one of a scroller that the tree lacks does nothing.
 /// After a refusal the tree has the pulls and the commands before the refused one; when memory runs out it
 /// has the pulls and the first few commands.
 pub fn apply_frame(
@@ -202,7 +202,7 @@ fn moves_some(before: &LayerTree, after: &LayerTree, pulls: &[Move]) -> bool
 
 /// Whether a main frame of a script changes something: it has commands, or the main value of some
 /// scroller changed by more or less than its pull. `before` is the page before the frame and `after` the
-/// one after it. The parts of a pull are below 2^39 in absolute value.
+/// one after it. The parts of a pull are below 2^58 in absolute value.
 pub fn changes_something(
     script: &Script,
     frame: u32,

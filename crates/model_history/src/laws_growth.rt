@@ -1,6 +1,6 @@
 //! Laws of scripts that are told while they are played, as contracts of functions that do nothing.
 
-ghost use Rattle.std.specs.Prelude.{◌≡◌, ℕ, suc, ◌<◌, nat_lt, true, false, List, [], ◌∷◌, ◌++◌, length};
+ghost use Rattle.std.specs.Prelude.{◌≡◌, ℕ, suc, ◌<◌, ◌-◌, ◌^◌, nat_lt, true, false, List, [], ◌∷◌, ◌++◌, length};
 ghost use Rattle.std.specs.List.{list_all};
 ghost use Rattle.model_states.specs.Kinds.{is_sent};
 ghost use Rattle.page_layers.specs.declared.command.Command.{Command};
@@ -8,9 +8,9 @@ ghost use Rattle.page_layers.specs.declared.moves.Move.{Move};
 ghost use Rattle.model_history.specs.declared.input.Input.{Input};
 ghost use Rattle.model_history.specs.declared.history.Entry.{Entry};
 ghost use Rattle.model_history.specs.Scripts.{ScriptModel};
-ghost use Rattle.model_history.specs.Accepted.{IsAccepted, TakesAll};
+ghost use Rattle.model_history.specs.Accepted.{IsAccepted, IsPlayable, TakesAll};
 ghost use Rattle.model_history.specs.Frames.{page_before};
-ghost use Rattle.model_history.specs.Ranges.{command_in_range, is_in_ranges, are_short};
+ghost use Rattle.model_history.specs.Ranges.{command_in_range, input_in_range, is_in_ranges, are_short};
 ghost use Rattle.model_history.specs.EventFields.{answers};
 ghost use Rattle.model_history.specs.Scans.{counted};
 ghost use Rattle.model_history.specs.Legal.{sched, Legal};
@@ -55,4 +55,13 @@ pub fn grown_scripts_are_accepted()
     ensures main_frame { (s : ScriptModel) → IsAccepted s → is_in_ranges (with_main_frame s) ≡ true → IsAccepted (with_main_frame s) }
     ensures commands { (s : ScriptModel) (pulls : ℕ → List Move) (k : ℕ) (cs : List Command) → IsAccepted s → suc k ≡ length s.main → list_all (command_in_range s.version) cs ≡ true → TakesAll (page_before s pulls k) cs → IsAccepted (with_commands s cs) }
     ensures short { (s : ScriptModel) (cs : List Command) → are_short s.main ≡ true → nat_lt (length cs) 4294967296 ≡ true → are_short (with_commands s cs).main ≡ true }
+{}
+
+/// A playable script that grows is playable, as long as its inputs and its main frames can be counted in 32 bits: with
+/// one input more whose numbers are in their ranges, with one main frame more, and with other commands of its last main
+/// frame that the page before this frame takes, whatever was pulled.
+pub fn grown_scripts_are_playable()
+    ensures input { (s : ScriptModel) (x : Input) → IsPlayable s → suc (length s.inputs) < 2 ^ 32 - 1 → input_in_range (length s.main) x ≡ true → IsPlayable (with_input s x) }
+    ensures main_frame { (s : ScriptModel) → IsPlayable s → suc (length s.main) < 2 ^ 32 - 1 → IsPlayable (with_main_frame s) }
+    ensures commands { (s : ScriptModel) (pulls : ℕ → List Move) (k : ℕ) (cs : List Command) → IsPlayable s → suc k ≡ length s.main → TakesAll (page_before s pulls k) cs → IsPlayable (with_commands s cs) }
 {}

@@ -11,7 +11,7 @@ ghost use Rattle.page_layers.specs.Axes.{Axis};
 ghost use Rattle.page_layers.specs.Scrollers.{has_scroller, most, main_value};
 ghost use Rattle.page_layers.specs.Effects.{page_after_pulls};
 ghost use Rattle.model_history.specs.Frames.{commands_of, page, page_before, main_move, changes, pulls_of};
-ghost use Rattle.model_history.specs.Accepted.{IsAccepted, TakesAll};
+ghost use Rattle.model_history.specs.Accepted.{IsAccepted, IsPlayable, TakesAll};
 ghost use Rattle.model_history.specs.Legal.{Legal};
 
 /// The page after n frames depends on the pulls of these frames alone, and with other pulls only its
@@ -38,7 +38,12 @@ pub fn unchanged_frames_do_nothing()
     ensures page { (s : ScriptModel) (ps : ℕ → List Move) (k : ℕ) → changes s ps k ≡ false → page s ps (suc k) ≡ page_after_pulls (ps k) (page s ps k) }
 {}
 
-/// The commands of an accepted script are taken whatever was pulled.
-pub fn accepted_commands_are_taken()
-    ensures { (s : ScriptModel) (ps : ℕ → List Move) (k : ℕ) → IsAccepted s → TakesAll (page_before s ps k) (commands_of s k) }
+/// Every accepted script can be played.
+pub fn accepted_scripts_are_playable()
+    ensures { (s : ScriptModel) → IsAccepted s → IsPlayable s }
+{}
+
+/// The commands of a playable script are taken whatever was pulled.
+pub fn playable_commands_are_taken()
+    ensures { (s : ScriptModel) (ps : ℕ → List Move) (k : ℕ) → IsPlayable s → TakesAll (page_before s ps k) (commands_of s k) }
 {}

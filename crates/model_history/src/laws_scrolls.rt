@@ -19,7 +19,7 @@ ghost use Rattle.model_history.specs.Scrolls.{sum_of_moves, in_base, in_delta, b
 ghost use Rattle.model_history.specs.Values.{values};
 ghost use Rattle.model_history.specs.ScrollLaws.{frame_in_flight, pulled_by, clamps, AreSums, AreSmall, AreRising};
 ghost use Rattle.model_history.specs.FrameLaws.{AtEach};
-ghost use Rattle.model_history.specs.Accepted.{IsAccepted};
+ghost use Rattle.model_history.specs.Accepted.{IsPlayable};
 ghost use Rattle.model_history.specs.Legal.{Legal};
 
 /// The offset of a scroller is the sum of the main moves of the committed frames up to the active one
@@ -48,12 +48,12 @@ pub fn values_are_sums()
     ensures next_send { (s : ScriptModel) (workers : ℕ) (h : List Entry) (sc : ℕ) (ax : Axis) → Legal s workers h → frame_in_flight h ≡ None → unsent s h sc ax ≡ pull_answer (values s sc ax h) }
 {}
 
-/// In an accepted script each scroller stands in its range in the active page, and in its range in the
+/// In a playable script each scroller stands in its range in the active page, and in its range in the
 /// pending one. A scroller that the active page lacks stands at 0, as do all before the first
 /// activation.
 pub fn offsets_stay_in_range()
-    ensures active { (s : ScriptModel) (workers : ℕ) (h : List Entry) (sc : ℕ) (ax : Axis) → IsAccepted s → Legal s workers h → IsInRange (most (active_page s h) sc ax) (offset s h sc ax) }
-    ensures pending { (s : ScriptModel) (workers : ℕ) (h : List Entry) (sc : ℕ) (ax : Axis) → IsAccepted s → Legal s workers h → IsInRange (most (pending_page s h) sc ax) (pending_offset s h sc ax) }
+    ensures active { (s : ScriptModel) (workers : ℕ) (h : List Entry) (sc : ℕ) (ax : Axis) → IsPlayable s → Legal s workers h → IsInRange (most (active_page s h) sc ax) (offset s h sc ax) }
+    ensures pending { (s : ScriptModel) (workers : ℕ) (h : List Entry) (sc : ℕ) (ax : Axis) → IsPlayable s → Legal s workers h → IsInRange (most (pending_page s h) sc ax) (pending_offset s h sc ax) }
     ensures lacking { (s : ScriptModel) (workers : ℕ) (h : List Entry) (sc : ℕ) (ax : Axis) → Legal s workers h → has_scroller (active_page s h) sc ≡ false → (base s h sc ax ≡ pos 0) × (delta s h sc ax ≡ pos 0) × (offset s h sc ax ≡ pos 0) }
     ensures first { (s : ScriptModel) (workers : ℕ) (h : List Entry) (sc : ℕ) (ax : Axis) → Legal s workers h → active h ≡ None → (base s h sc ax ≡ pos 0) × (delta s h sc ax ≡ pos 0) × (offset s h sc ax ≡ pos 0) }
 {}
@@ -64,16 +64,16 @@ pub fn clobbering_leaves_no_delta()
     ensures { (s : ScriptModel) (workers : ℕ) (h : List Entry) (a k : ℕ) (listed : List Move) (sc : ℕ) (ax : Axis) → Legal s workers (record { actor = a; event = event.Activate k listed } ∷ h) → clobbers s (Some k) sc ≡ true → delta s (record { actor = a; event = event.Activate k listed } ∷ h) sc ax ≡ pos 0 }
 {}
 
-/// In a legal past of an accepted script each part of a pull and of an accepted move is below 2^34 in
+/// In a legal past of a playable script each part of a pull and of an accepted move is below 2^54 in
 /// absolute value, and the five values are within the bounds of every step.
 pub fn moves_are_small()
-    ensures parts { (s : ScriptModel) (workers : ℕ) (h : List Entry) → IsAccepted s → Legal s workers h → AtEach (λ g e. AreSmall (pulls e.event) × AreSmall (moves s e.event)) h }
-    ensures values { (s : ScriptModel) (workers : ℕ) (h : List Entry) (sc : ℕ) (ax : Axis) → IsAccepted s → Legal s workers h → IsBounded (values s sc ax h) }
+    ensures parts { (s : ScriptModel) (workers : ℕ) (h : List Entry) → IsPlayable s → Legal s workers h → AtEach (λ g e. AreSmall (pulls e.event) × AreSmall (moves s e.event)) h }
+    ensures values { (s : ScriptModel) (workers : ℕ) (h : List Entry) (sc : ℕ) (ax : Axis) → IsPlayable s → Legal s workers h → IsBounded (values s sc ax h) }
 {}
 
-/// The moves that a send and an activation of an accepted script list stand by rising scroller, each once,
+/// The moves that a send and an activation of a playable script list stand by rising scroller, each once,
 /// and none is (0, 0). Only one such list has this much for each scroller.
 pub fn listed_moves_rise()
-    ensures each { (s : ScriptModel) (workers : ℕ) (h : List Entry) → IsAccepted s → Legal s workers h → AtEach (λ g e. AreRising (pulls e.event) × AreRising (clamps e.event)) h }
+    ensures each { (s : ScriptModel) (workers : ℕ) (h : List Entry) → IsPlayable s → Legal s workers h → AtEach (λ g e. AreRising (pulls e.event) × AreRising (clamps e.event)) h }
     ensures one_list { (one other : List Move) → AreRising one → AreRising other → ((sc : ℕ) (ax : Axis) → amount_in sc ax one ≡ amount_in sc ax other) → one ≡ other }
 {}

@@ -37,12 +37,12 @@ pub use laws_frames::{
 };
 pub use laws_growth::{
     a_main_frame_may_follow, an_input_may_follow, commands_may_follow_their_frame,
-    grown_scripts_are_accepted, what_was_legal_stays_legal,
+    grown_scripts_are_accepted, grown_scripts_are_playable, what_was_legal_stays_legal,
 };
 pub use laws_lockstep::lockstep_is_one;
 pub use laws_pages::{
-    accepted_commands_are_taken, main_values_are_in_range, pages_depend_on_earlier_pulls,
-    unchanged_frames_do_nothing,
+    accepted_scripts_are_playable, main_values_are_in_range, pages_depend_on_earlier_pulls,
+    playable_commands_are_taken, unchanged_frames_do_nothing,
 };
 pub use laws_scrolls::{
     clobbering_leaves_no_delta, listed_moves_rise, moves_are_small, offsets_stay_in_range,

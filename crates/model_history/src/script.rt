@@ -4,7 +4,7 @@ ghost use Rattle.std.specs.Prelude.{◌≡◌, true, map, IfOk, OnOk, OnErr};
 ghost use Rattle.model_history.specs.Growth.{with_input, with_main_frame, with_last, with_commands};
 ghost use Rattle.model_history.specs.Scripts.{script_of};
 ghost use Rattle.model_history.specs.Ranges.{is_in_ranges, are_short};
-ghost use Rattle.model_history.specs.Accepted.{IsAccepted};
+ghost use Rattle.model_history.specs.Accepted.{IsAccepted, IsPlayable};
 ghost use Rattle.model_history.specs.Frames.{blank, commands_of};
 ghost use Rattle.model_history.specs.Judging.{Judged, framed};
 
@@ -237,10 +237,11 @@ impl Script {
         self.parts.inputs.as_slice()
     }
 
-    /// Its numbers are in their ranges, and its commands are taken. A law that does nothing when it
-    /// runs.
+    /// Its numbers are in their ranges, and its commands are taken; so it can be played. A law that does
+    /// nothing when it runs.
     pub fn is_accepted(&self)
         ensures accepted { IsAccepted self.now }
+        ensures playable { IsPlayable self.now }
         ensures short { are_short self.now.main ≡ true }
     {
         // This read tells the proof what the type keeps; it does nothing when it runs.

@@ -10,7 +10,7 @@ use Rattle.model_history.specs.declared.input.Input.{Input}
 use Rattle.model_history.specs.declared.input.Input.TheVariants as input
 use Rattle.model_history.specs.declared.history.Entry.{Entry}
 use Rattle.model_history.specs.Scripts.{ScriptModel}
-use Rattle.model_history.specs.Accepted.{IsAccepted}
+use Rattle.model_history.specs.Accepted.{IsPlayable}
 use Rattle.model_history.specs.EventFields.{sends}
 use Rattle.model_history.specs.Scans.{newest, counted}
 use Rattle.model_history.specs.Frames.{active, changes, pulls_of, is_left}
@@ -227,7 +227,7 @@ inputs_over all rest first now e x =
 -- ---- the whole run
 
 module _ (r : WalkState) (is : List Input) where
-  pub can_play : IsAccepted r.script → r.past ≡ [] → is ≡ r.script.inputs → CanFollow (then' (inputs_from is) run_end) r
+  pub can_play : IsPlayable r.script → r.past ≡ [] → is ≡ r.script.inputs → CanFollow (then' (inputs_from is) run_end) r
   can_play a e i =
       let w = whole_run r.script a in
       record { end = w.0; way = subst (λ (h : List Entry). then' (inputs_from is) run_end r.script h w.0) (sym e) (subst (λ (js : List Input). then' (inputs_from js) run_end r.script [] w.0) (sym i) w.1) }

@@ -10,7 +10,7 @@ use Rattle.model_history.specs.declared.event.Event.{Event}
 use Rattle.model_history.specs.declared.event.Event.TheVariants as event
 use Rattle.model_history.specs.declared.history.Entry.{Entry}
 use Rattle.model_history.specs.Scripts.{ScriptModel}
-use Rattle.model_history.specs.Accepted.{IsAccepted}
+use Rattle.model_history.specs.Accepted.{IsPlayable}
 use Rattle.model_history.specs.EventFields.{sends, begins}
 use Rattle.model_history.specs.Scans.{newest, counted}
 use Rattle.model_history.specs.Frames.{changes, pulls_of, is_left, active, pending}
@@ -127,7 +127,7 @@ pair_turn s st h g f x e =
       less = fewer_left s g f e;
     }
 
-pub activate_now : (s : ScriptModel) (h : List Entry) (st : Sched) → IsAccepted s → Rests s h st → may st kind.Activate ≡ true → Reaches s (ActivateNow s) h (sched_after st kind.Activate)
+pub activate_now : (s : ScriptModel) (h : List Entry) (st : Sched) → IsPlayable s → Rests s h st → may st kind.Activate ≡ true → Reaches s (ActivateNow s) h (sched_after st kind.Activate)
 activate_now s h st ok r m =
     let u = while_ends (λ g. not (is_possible s kind.Activate 0 g)) (Pair s) (Stands s st h) (tiles_left s) turn h (record { rests = r; keeps = keeps_all h }) in
     let ready : are_ready s u.past (required s u.past) ≡ true = sym (activatable s u.past st u.holds.rests m) ∙ not_false (is_possible s kind.Activate 0 u.past) u.over in
@@ -169,7 +169,7 @@ some_pairs s st (suc n) h r = by_test (has_first s h) (more (some_pairs s st n))
 -- ---- rounds
 
 -- the pending commit is activated, where there is one
-activate_where : (s : ScriptModel) (h : List Entry) (b : Begun) (w : Bool) → IsAccepted s → Rests s h (inside w true b) → Reaches s (Where waits (ActivateNow s) Stays) h (inside false true b)
+activate_where : (s : ScriptModel) (h : List Entry) (b : Begun) (w : Bool) → IsPlayable s → Rests s h (inside w true b) → Reaches s (Where waits (ActivateNow s) Stays) h (inside false true b)
 activate_where s h b true ok r =
     let a = activate_now s h (inside true true b) ok r refl in
     record { past = a.past; way = where_true waits (ActivateNow s) Stays h a.past (waits_as s h (inside true true b) r) a.way; rests = a.rests; keeps = a.keeps }
@@ -193,7 +193,7 @@ pub record FrameEnds (s : ScriptModel) (h : List Entry) : Type 0 where
 abbrev pub begun_plain : List Entry → List Entry
 begun_plain h = entry 0 event.BeginPlain ∷ h
 
-pub plain_frame : (s : ScriptModel) (h : List Entry) → IsAccepted s → Rests s h (at_rest false) → asks_draw (input_now s h) ≡ false → is_left s h ≡ true → FrameEnds s h
+pub plain_frame : (s : ScriptModel) (h : List Entry) → IsPlayable s → Rests s h (at_rest false) → asks_draw (input_now s h) ≡ false → is_left s h ≡ true → FrameEnds s h
 plain_frame s h ok r no_draw left =
     let d : due s h kind.BeginPlain 0 ≡ Some event.BeginPlain = ap (λ c. on_if c event.BeginPlain) (and_both (not (asks_draw (input_now s h))) (is_left s h) (ap not no_draw) left) in
     let x = enters s h (at_rest false) kind.BeginPlain 0 event.BeginPlain r refl (omega arith) refl (record { kind = refl; goes_on = refl; starts_none = refl; finishes_none = refl }) d in
@@ -235,7 +235,7 @@ wait_falls s h g waiting more none =
     let f : one_if (waits h) ≡ 1 = ap one_if waiting in
     omega (arith, e, f, more)
 
-pub round : (s : ScriptModel) (h g : List Entry) → IsAccepted s → Between s h g → asks_draw (input_now s g) ≡ false → is_left s g || waits g ≡ true → Turn (Round s) (Between s h) (rounds_left s) g
+pub round : (s : ScriptModel) (h g : List Entry) → IsPlayable s → Between s h g → asks_draw (input_now s g) ≡ false → is_left s g || waits g ≡ true → Turn (Round s) (Between s h) (rounds_left s) g
 round s h g ok x no_draw more = by_waiting x.waiting x.rests
   where
     by_waiting : (w : Bool) → Rests s g (at_rest w) → Turn (Round s) (Between s h) (rounds_left s) g

@@ -28,7 +28,7 @@ use Rattle.page_layers.specs.Sound.{AreDistinctLayers}
 use Rattle.page_layers.specs.declared.moves.Move.{Move}
 use Rattle.model_history.specs.declared.history.Entry.{Entry}
 use Rattle.model_history.specs.Scripts.{ScriptModel}
-use Rattle.model_history.specs.Accepted.{IsAccepted}
+use Rattle.model_history.specs.Accepted.{IsPlayable}
 use Rattle.model_history.specs.Frames.{page, pulls_of, pending, up_to}
 use Rattle.tile_visible.specs.Visible.{viewport, grid_of, seen, visible_places, visible_keys, put_layer, by_id, key_at}
 use Rattle.geom.specs.KeyLists.{has_key}
@@ -139,7 +139,7 @@ found_by_id l (k ∷ ks) d (inr i) = by_test (k.id == l.id) refl (found_by_id l 
         absurd cc
     by_test false e r = r
 
-pub layers_distinct : (s : ScriptModel) → IsAccepted s → (ps : ℕ → List Move) (n : ℕ) → AreDistinctLayers (page s ps n).layers
+pub layers_distinct : (s : ScriptModel) → IsPlayable s → (ps : ℕ → List Move) (n : ℕ) → AreDistinctLayers (page s ps n).layers
 layers_distinct s a ps n = subst (λ (p : Page). AreDistinctLayers p.layers) (sym (page_values s ps no_pulls n)) (plain_page s a n).distinct
 
 -- ---- ranks of visible tiles
@@ -211,7 +211,7 @@ pub record IsWanted (s : ScriptModel) (h : List Entry) (q : TileKey) : Type 0 wh
   pub now : rank.bin ≡ bin.Now
   pub wanted : In rank (wanted s h)
 
-pub required_wanted : (s : ScriptModel) → IsAccepted s → (h : List Entry) (q : TileKey) → in_flight h ≡ [] → In q (required s h) → has_key (ready s h) q ≡ false → IsWanted s h q
+pub required_wanted : (s : ScriptModel) → IsPlayable s → (h : List Entry) (q : TileKey) → in_flight h ≡ [] → In q (required s h) → has_key (ready s h) q ≡ false → IsWanted s h q
 required_wanted s a h q flies i out =
     let (p, is_p, p_now) = now_in_tree s side.Pending (pending_tree s h) q (layers_distinct s a (pulls_of h) (up_to (pending h))) i in
     let (r, is_r, r_now) = better_now (rank_in s side.Active (active_tree s h) q) p p_now in
@@ -223,7 +223,7 @@ required_wanted s a h q flies i out =
     record { rank = r; ranked = e; now = r_now; wanted = filter_map_in (key_rank s h) q r (filter (is_unmade s h) (live_keys s h)) among e }
 
 -- where not all that an activation needs is ready, a visible tile is the first
-pub required_first : (s : ScriptModel) → IsAccepted s → (h : List Entry) → in_flight h ≡ [] → are_ready s h (required s h) ≡ false → (r : Rank) × (rank_to_start s h ≡ Some r) × (r.bin ≡ bin.Now)
+pub required_first : (s : ScriptModel) → IsPlayable s → (h : List Entry) → in_flight h ≡ [] → are_ready s h (required s h) ≡ false → (r : Rank) × (rank_to_start s h ≡ Some r) × (r.bin ≡ bin.Now)
 required_first s a h flies out =
     let (q, i, lacks) = not_all (has_key (ready s h)) (required s h) out in
     let w = required_wanted s a h q flies i lacks in
@@ -240,7 +240,7 @@ stuck s h k o e f = by_ready (are_ready s h (required s h)) refl
         let t : is_possible s kind.Activate 0 h ≡ true = ap (λ (b : Bool). is_some (cond b (due_activate s h (pending h)) None)) o ∙ ap is_some d in
         absurd cc
 
-pub stuck_first : (s : ScriptModel) (n : ℕ) (h : List Entry) → IsAccepted s → Legal s n h → in_flight h ≡ [] → is_open h kind.Activate ≡ true → is_possible s kind.Activate 0 h ≡ false
+pub stuck_first : (s : ScriptModel) (n : ℕ) (h : List Entry) → IsPlayable s → Legal s n h → in_flight h ≡ [] → is_open h kind.Activate ≡ true → is_possible s kind.Activate 0 h ≡ false
     → (r : Rank) × (rank_to_start s h ≡ Some r) × (r.bin ≡ bin.Now)
 stuck_first s n h a l flies o f =
     let state : may (sched h) kind.Activate ≡ true = and_right (not (has_ended h)) (may (sched h) kind.Activate) o in

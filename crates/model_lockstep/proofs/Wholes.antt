@@ -1,6 +1,6 @@
--- Each input leads somewhere, and so does the whole run: every accepted script has a lockstep history.
+-- Each input leads somewhere, and so does the whole run: every playable script has a lockstep history.
 use Rattle.std.proofs.Common.{ℕ, zero, suc, ◌≡◌, ◌⊎◌, inl, inr, ◌<◌, ◌≤◌, ◌+◌, ◌==◌, Bool, true, false, not, ◌&&◌, ◌||◌, Some, None, List, [], ◌∷◌, Option, is_some, length, drop, refl, ap, sym, ◌∙◌, subst, arith}
-use Rattle.std.specs.Prelude.{ℤ, pos, nat_lt, nat_le, slice_get, reverse}
+use Rattle.std.specs.Prelude.{ℤ, pos, nat_lt, slice_get, reverse}
 use Rattle.std.proofs.lemmas.Bool.Decides.{nat_tests}
 use Rattle.std.specs.List.{list_all}
 use Rattle.std.proofs.lemmas.List.{reverse-reverse}
@@ -13,8 +13,8 @@ use Rattle.model_history.specs.declared.input.Input.{Input}
 use Rattle.model_history.specs.declared.input.Input.TheVariants as input
 use Rattle.model_history.specs.declared.history.Entry.{Entry}
 use Rattle.model_history.specs.Scripts.{ScriptModel}
-use Rattle.model_history.specs.Ranges.{is_u32, input_in_range, draw_count, head_in_range, main_in_range, inputs_in_range, is_in_ranges}
-use Rattle.model_history.specs.Accepted.{IsAccepted}
+use Rattle.model_history.specs.Ranges.{is_u32, input_in_range}
+use Rattle.model_history.specs.Accepted.{IsPlayable}
 use Rattle.model_history.specs.EventFields.{sends}
 use Rattle.model_history.specs.Scans.{counted, newest}
 use Rattle.page_layers.specs.Axes.{across, down}
@@ -56,14 +56,6 @@ none_after (x ∷ xs) (suc n) l = none_after xs n (omega (arith, l))
 pub record IsLeft (s : ScriptModel) (h : List Entry) (is : List Input) : Type 0 where
   pub rest : drop (next_input h) s.inputs ≡ is
   pub count : next_input h + length is ≡ length s.inputs
-
-pub each_in_range : (s : ScriptModel) → IsAccepted s → list_all (input_in_range (length s.main)) s.inputs ≡ true
-unfolding is_in_ranges
-each_in_range s a =
-    let few : Bool = nat_le (length s.inputs) 65536 in
-    let each : Bool = list_all (input_in_range (length s.main)) s.inputs in
-    let draws : Bool = nat_le (draw_count s.inputs) 4096 in
-    and_right few each (and_left (few && each) draws (and_right (head_in_range s && main_in_range s.version s.main) (inputs_in_range (length s.main) s.inputs) a.ranges))
 
 -- ---- each input
 
@@ -120,7 +112,7 @@ round_left s h false f r l out = by_test (is_left s h) (or_left (is_left s h) (w
 pub no_draw : (o : Option Input) (f : ℕ) → o ≡ Some (input.Await f) → asks_draw o ≡ false
 no_draw o f e = ap asks_draw e
 
-awaits : (s : ScriptModel) (h : List Entry) (w : Bool) (f : ℕ) → IsAccepted s → Rests s h (at_rest w) → input_now s h ≡ Some (input.Await f) → f < length s.main → Uses s (InputStep s (input.Await f)) h
+awaits : (s : ScriptModel) (h : List Entry) (w : Bool) (f : ℕ) → IsPlayable s → Rests s h (at_rest w) → input_now s h ≡ Some (input.Await f) → f < length s.main → Uses s (InputStep s (input.Await f)) h
 awaits s h w f ok r e l =
     let u = while_ends (λ g. not (is_possible s kind.Await 0 g)) (Round s) (Between s h) (rounds_left s) turn h (record { waiting = w; rests = r; keeps = keeps_all h }) in
     let g : List Entry = u.past in
@@ -139,14 +131,14 @@ awaits s h w f ok r e l =
         round s h g ok b (no_draw (input_now s g) f (now g b)) (round_left s g b.waiting f b.rests l out)
 
 -- a pending commit is activated before the tiles are made
-settled_first : (s : ScriptModel) (h : List Entry) (w : Bool) → IsAccepted s → Rests s h (at_rest w) → input_now s h ≡ Some input.Settle → Reaches s (Where waits (Round s) Stays) h (at_rest false)
+settled_first : (s : ScriptModel) (h : List Entry) (w : Bool) → IsPlayable s → Rests s h (at_rest w) → input_now s h ≡ Some input.Settle → Reaches s (Where waits (Round s) Stays) h (at_rest false)
 settled_first s h false ok r e = record { past = h; way = where_false waits (Round s) Stays h h (waits_as s h (at_rest false) r) refl; rests = r; keeps = keeps_all h }
 settled_first s h true ok r e =
     let t : waits h ≡ true = waits_as s h (at_rest true) r in
     let a = activate_now s h (at_rest true) ok r refl in
     record { past = a.past; way = where_true waits (Round s) Stays h a.past t (where_true waits (ActivateNow s) (PlainFrame s) h a.past t a.way); rests = a.rests; keeps = a.keeps }
 
-settles : (s : ScriptModel) (h : List Entry) (w : Bool) → IsAccepted s → Rests s h (at_rest w) → input_now s h ≡ Some input.Settle → Uses s (InputStep s input.Settle) h
+settles : (s : ScriptModel) (h : List Entry) (w : Bool) → IsPlayable s → Rests s h (at_rest w) → input_now s h ≡ Some input.Settle → Uses s (InputStep s input.Settle) h
 settles s h w ok r e =
     let a = settled_first s h w ok r e in
     let u = all_pairs s a.past (at_rest false) a.rests in
@@ -162,7 +154,7 @@ settles s h w ok r e =
 pub frame_below : (n f : ℕ) → input_in_range n (input.Await f) ≡ true → f < n
 frame_below n f t = is_below f n (and_right (is_u32 f) (nat_lt f n) t)
 
-input_step : (s : ScriptModel) (h : List Entry) (w : Bool) (i : Input) → IsAccepted s → Rests s h (at_rest w) → input_now s h ≡ Some i → input_in_range (length s.main) i ≡ true → Uses s (InputStep s i) h
+input_step : (s : ScriptModel) (h : List Entry) (w : Bool) (i : Input) → IsPlayable s → Rests s h (at_rest w) → input_now s h ≡ Some i → input_in_range (length s.main) i ≡ true → Uses s (InputStep s i) h
 input_step s h w (input.Scroll sc dx dy) ok r e t = scrolls s h w sc dx dy r e
 input_step s h w (input.Wheel x y dx dy) ok r e t = wheels s h w x y dx dy r e
 input_step s h w input.Draw ok r e t = draw_frame s h w r (ap asks_draw e)
@@ -178,11 +170,11 @@ record Plays (s : ScriptModel) (is : List Input) (h : List Entry) : Type 0 where
   rests : Rests s past (at_rest waiting)
   used : next_input past ≡ length s.inputs
 
-input_steps : (s : ScriptModel) (is : List Input) (h : List Entry) (w : Bool) → IsAccepted s → Rests s h (at_rest w) → IsLeft s h is → Plays s is h
+input_steps : (s : ScriptModel) (is : List Input) (h : List Entry) (w : Bool) → IsPlayable s → Rests s h (at_rest w) → IsLeft s h is → Plays s is h
 input_steps s [] h w ok r l = let e = l.count in record { past = h; way = refl; waiting = w; rests = r; used = omega (arith, e) }
 input_steps s (i ∷ is) h w ok r l =
     let f = at_front s.inputs (next_input h) i is l.rest in
-    let u = input_step s h w i ok r f.0 (all_at (input_in_range (length s.main)) s.inputs (next_input h) i (each_in_range s ok) f.0) in
+    let u = input_step s h w i ok r f.0 (all_at (input_in_range (length s.main)) s.inputs (next_input h) i ok.inputs f.0) in
     let used = u.used in
     let e = l.count in
     let left : IsLeft s u.past is = record { rest = ap (λ n. drop n s.inputs) used ∙ f.1; count = omega (arith, used, e) } in
@@ -192,7 +184,7 @@ input_steps s (i ∷ is) h w ok r l =
 abbrev pub goes_on : ScriptModel → List Entry → Bool
 goes_on s h = is_left s h || waits h
 
-last_rounds : (s : ScriptModel) (h : List Entry) (w : Bool) → IsAccepted s → Rests s h (at_rest w) → next_input h ≡ length s.inputs → Ends (goes_on s) (Round s) (Between s h) h
+last_rounds : (s : ScriptModel) (h : List Entry) (w : Bool) → IsPlayable s → Rests s h (at_rest w) → next_input h ≡ length s.inputs → Ends (goes_on s) (Round s) (Between s h) h
 last_rounds s h w ok r used = while_ends (goes_on s) (Round s) (Between s h) (rounds_left s) turn h (record { waiting = w; rests = r; keeps = keeps_all h })
   where
     turn : (g : List Entry) → Between s h g → goes_on s g ≡ true → Turn (Round s) (Between s h) (rounds_left s) g
@@ -207,15 +199,15 @@ ends s h false r used over =
     let e : is_over s h ≡ true = and_both ((next_input h == length s.inputs) && not (is_left s h)) (is_empty (in_flight h)) all (ap is_empty r.none_flies) in
     (event.End, can_then s h (at_rest false) kind.End 0 r refl ∙ ap (λ c. on_if c event.End) e, refl)
 
-pub whole_run : (s : ScriptModel) → IsAccepted s → (h : List Entry) × WholeRun s [] h
+pub whole_run : (s : ScriptModel) → IsPlayable s → (h : List Entry) × WholeRun s [] h
 whole_run s ok =
     let p = input_steps s s.inputs [] false ok (record { legal = tt; going = refl; state = refl; none_flies = refl }) (record { rest = refl; count = omega arith }) in
     let u = last_rounds s p.past p.waiting ok p.rests p.used in
     let g : List Entry = u.past in
     (entry 0 event.End ∷ g, (p.past, p.way, (g, u.way, ends s g u.holds.waiting u.holds.rests (u.holds.keeps.inputs ∙ p.used) u.over)))
 
--- every accepted script has a lockstep history
-pub lockstep_there : (s : ScriptModel) → IsAccepted s → (history : List Entry) × IsLockstep s history
+-- every playable script has a lockstep history
+pub lockstep_there : (s : ScriptModel) → IsPlayable s → (history : List Entry) × IsLockstep s history
 lockstep_there s ok =
     let w = whole_run s ok in
     (reverse w.0, subst (λ (h : List Entry). WholeRun s [] h) (sym (reverse-reverse w.0)) w.1)

@@ -9,7 +9,7 @@ ghost use Rattle.tile_priority.specs.declared.rank.Rank.{Rank};
 ghost use Rattle.tile_priority.specs.Ordered.{In};
 ghost use Rattle.model_history.specs.Scripts.{ScriptModel};
 ghost use Rattle.model_history.specs.declared.history.Entry.{Entry};
-ghost use Rattle.model_history.specs.Accepted.{IsAccepted};
+ghost use Rattle.model_history.specs.Accepted.{IsPlayable};
 ghost use Rattle.model_history.specs.EventFields.{sends};
 ghost use Rattle.model_history.specs.Scans.{counted};
 ghost use Rattle.geom.specs.KeyLists.{has_key};
@@ -19,17 +19,17 @@ ghost use Rattle.model_history.specs.Legal.{is_open, Legal};
 ghost use Rattle.model_history.specs.Lockstep.{waits, is_possible, Pair, Round, IsLockstep};
 ghost use Rattle.model_lockstep.specs.Measures.{tiles_left, rounds_left};
 
-/// Every accepted script has a lockstep history, and no other history of the script is one.
+/// Every playable script has a lockstep history, and no other history of the script is one.
 pub fn lockstep_exists()
-    ensures { (s : ScriptModel) → IsAccepted s → (history : List Entry) × IsLockstep s history × ((other : List Entry) → IsLockstep s other → other ≡ history) }
+    ensures { (s : ScriptModel) → IsPlayable s → (history : List Entry) × IsLockstep s history × ((other : List Entry) → IsLockstep s other → other ≡ history) }
 {}
 
 /// While no tile is in flight, a key that an activation needs and that is not ready is wanted, and is
 /// visible now. So if the pending commit can't be activated though the state allows it, a visible
 /// tile starts first.
 pub fn required_tiles_start()
-    ensures wanted { (s : ScriptModel) (h : List Entry) (q : TileKey) → IsAccepted s → in_flight h ≡ [] → has_key (required s h) q ≡ true → has_key (ready s h) q ≡ false → (r : Rank) × (rank s h q ≡ Some r) × (r.bin ≡ bin.Now) × In r (wanted s h) }
-    ensures first { (s : ScriptModel) (workers : ℕ) (h : List Entry) → IsAccepted s → Legal s workers h → in_flight h ≡ [] → is_open h kind.Activate ≡ true → is_possible s kind.Activate 0 h ≡ false → (r : Rank) × (rank_to_start s h ≡ Some r) × (r.bin ≡ bin.Now) }
+    ensures wanted { (s : ScriptModel) (h : List Entry) (q : TileKey) → IsPlayable s → in_flight h ≡ [] → has_key (required s h) q ≡ true → has_key (ready s h) q ≡ false → (r : Rank) × (rank s h q ≡ Some r) × (r.bin ≡ bin.Now) × In r (wanted s h) }
+    ensures first { (s : ScriptModel) (workers : ℕ) (h : List Entry) → IsPlayable s → Legal s workers h → in_flight h ≡ [] → is_open h kind.Activate ≡ true → is_possible s kind.Activate 0 h ≡ false → (r : Rank) × (rank_to_start s h ≡ Some r) × (r.bin ≡ bin.Now) }
 {}
 
 /// A pair leaves fewer tiles to make.

@@ -1,4 +1,4 @@
-//! Lockstep never sticks: every accepted script has a lockstep history.
+//! Lockstep never sticks: every playable script has a lockstep history.
 #![tactic(auto)]
 
 mod compositor;

@@ -2,10 +2,10 @@
 use Rattle.std.specs.Prelude.{ℤ, pos, negsuc, ◌-◌, ◌^◌, ◌<ℤ◌}
 use Rattle.model_states.specs.declared.synced.Synced.{Synced}
 
--- a number whose absolute value is below 2^39
+-- a number whose absolute value is below 2^58
 pub record IsBoundedNumber (z : ℤ) : Type 0 where
-  pub above : negsuc (2 ^ 39 - 1) <ℤ z
-  pub below : z <ℤ pos (2 ^ 39)
+  pub above : negsuc (2 ^ 58 - 1) <ℤ z
+  pub below : z <ℤ pos (2 ^ 58)
 
 -- all five values are such numbers
 pub record IsBounded (s : Synced) : Type 0 where

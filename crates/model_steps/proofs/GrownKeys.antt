@@ -9,7 +9,7 @@ use Rattle.page_layers.specs.Contents.{content_at}
 use Rattle.page_layers.specs.Pages.{Page}
 use Rattle.page_layers.specs.declared.moves.Move.{Move}
 use Rattle.model_history.specs.Scripts.{ScriptModel}
-use Rattle.model_history.specs.Accepted.{IsAccepted}
+use Rattle.model_history.specs.Accepted.{IsPlayable}
 use Rattle.model_history.specs.Frames.{page}
 use Rattle.model_history.specs.Stamps.{stamp_in}
 use Rattle.model_history.specs.Sharing.{has_page_key, key_rect}
@@ -17,7 +17,7 @@ use Rattle.model_history.specs.Tiles.{page_keys}
 use Rattle.model_history.proofs.SharedPages.{same_pages}
 use Rattle.model_steps.specs.ShownKeys.{KeyShows}
 
-pub still_shows : (s t : ScriptModel) (ps : ℕ → List Move) (n : ℕ) (q : TileKey) (r : Rect) (list : List Item) → IsAccepted t → page t ps n ≡ page s ps n → stamp_in t ps n ≡ stamp_in s ps n
+pub still_shows : (s t : ScriptModel) (ps : ℕ → List Move) (n : ℕ) (q : TileKey) (r : Rect) (list : List Item) → IsPlayable t → page t ps n ≡ page s ps n → stamp_in t ps n ≡ stamp_in s ps n
     → has_page_key s ps n q ≡ true → KeyShows s q r list → KeyShows t q r list
 still_shows s t ps n q r list a same_page same_stamps has shows =
     let there : has_page_key t ps n q ≡ true = (λ i. has_key (page_keys (same_page i) (same_stamps i)) q) ∙ has in

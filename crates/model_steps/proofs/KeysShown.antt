@@ -7,12 +7,12 @@ use Rattle.page_layers.specs.declared.moves.Move.{Move}
 use Rattle.std.specs.Prelude.{find}
 use Rattle.model_history.specs.Scripts.{ScriptModel}
 use Rattle.model_history.specs.Frames.{page}
-use Rattle.model_history.specs.Accepted.{IsAccepted}
+use Rattle.model_history.specs.Accepted.{IsPlayable}
 use Rattle.model_history.specs.Sharing.{has_page_key, key_rect}
 use Rattle.model_history.proofs.SharedPages.{same_pages}
 use Rattle.model_steps.specs.ShownKeys.{KeyShows}
 
-pub layer_shows : (s : ScriptModel) (ps : ℕ → List Move) (n : ℕ) (q : TileKey) (l : PageLayer) → IsAccepted s → has_page_key s ps n q ≡ true
+pub layer_shows : (s : ScriptModel) (ps : ℕ → List Move) (n : ℕ) (q : TileKey) (l : PageLayer) → IsPlayable s → has_page_key s ps n q ≡ true
     → find (has_id q.layer) (page s ps n).layers ≡ Some l → KeyShows s q (key_rect (page s ps n) q) l.items
 layer_shows s ps n q l a has is = record {
   rect = λ qs m t. (same_pages s ps qs n m q a has t).rect;

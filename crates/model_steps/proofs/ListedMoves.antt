@@ -10,7 +10,7 @@ use Rattle.model_history.specs.Frames.{pending, pending_page}
 use Rattle.model_history.specs.Scrolls.{next_pulls, next_clamps, clobbers}
 use Rattle.model_history.specs.ScrollLaws.{frame_in_flight, AreRising}
 use Rattle.model_history.specs.Values.{values}
-use Rattle.model_history.specs.Accepted.{IsAccepted}
+use Rattle.model_history.specs.Accepted.{IsPlayable}
 use Rattle.model_history.specs.Legal.{Legal}
 use Rattle.model_history.proofs.MoveLists.{one_rising_list}
 use Rattle.model_history.proofs.RisingMoves.{pulls_rise, clamps_rise}
@@ -25,7 +25,7 @@ pub send_lists : (s : ScriptModel) (n : ℕ) (h : List Entry) (ms : List Move) �
 send_lists s n h ms l idle r same =
     one_rising_list (next_pulls s h) ms (pulls_rise s h) r (λ sc ax. amount_pulled s h sc ax ∙ (unsent_is_value s n h sc ax l idle ∙ sym (same sc ax)))
 
-pub activation_lists : (s : ScriptModel) (n : ℕ) (h : List Entry) (ms : List Move) → IsAccepted s → Legal s n h → AreRising ms
+pub activation_lists : (s : ScriptModel) (n : ℕ) (h : List Entry) (ms : List Move) → IsPlayable s → Legal s n h → AreRising ms
     → ((sc : ℕ) (ax : Axis) → amount_in sc ax ms ≡ cond (has_scroller (pending_page s h) sc) (clamped_by (clobbers s (pending h)) (pending_page s h) (λ sc ax. values s sc ax h) sc ax) (pos 0))
     → next_clamps s h ≡ ms
 activation_lists s n h ms a l r same =

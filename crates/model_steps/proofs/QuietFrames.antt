@@ -24,7 +24,7 @@ use Rattle.model_history.specs.declared.history.Entry.{Entry}
 use Rattle.model_history.specs.EventFields.{sends, commits, aborts, activates}
 use Rattle.model_history.specs.Scans.{was_named, newest, counted}
 use Rattle.model_history.specs.Scripts.{ScriptModel}
-use Rattle.model_history.specs.Accepted.{IsAccepted}
+use Rattle.model_history.specs.Accepted.{IsPlayable}
 use Rattle.model_history.specs.Frames.{commands_of, page, page_before, pulls_of, active, pending, up_to}
 use Rattle.model_history.specs.Stamps.{unchanged, changed_by, frame_changes, commits_to, place_rect, stamp_in}
 use Rattle.model_history.specs.SameChanges.{SameChanges}
@@ -171,13 +171,13 @@ module _ (s : ScriptModel) (workers : ℕ) (h : List Entry) (actor k : ℕ) (leg
   there_plain : (id : ℕ) → has_layer id (page s (pulls_of h) (suc k)).layers ≡ true → has_layer id (plain s (suc k)).layers ≡ true
   there_plain id there = sym (read (λ p. has_layer id p.layers) (λ p. refl) (suc k)) ∙ there
 
-  pub sizes : IsAccepted s → (id : ℕ) → has_layer id (page s (pulls_of h) (suc k)).layers ≡ true → is_listed_whole (frame_changes s (pulls_of h) k).list id ≡ false
+  pub sizes : IsPlayable s → (id : ℕ) → has_layer id (page s (pulls_of h) (suc k)).layers ≡ true → is_listed_whole (frame_changes s (pulls_of h) k).list id ≡ false
       → size_of (page s (pulls_of h) before) id ≡ size_of (page s (pulls_of h) (suc k)) id
   sizes a id there out =
       let f = frame_sizes (commands_of s k) (plain s k) id unchanged (plain_page s a k) (plain_takes s a k) (there_plain id there) (ap (λ (c : Changed). is_listed_whole c.list id) (sym lists_alike) ∙ out) in
       read (λ p. size_of p id) (λ p. refl) before ∙ ap (λ (p : Page). size_of p id) (sym same_before) ∙ sym f.2 ∙ sym (read (λ p. size_of p id) (λ p. refl) (suc k))
 
-  pub items : IsAccepted s → (id : ℕ) → has_layer id (page s (pulls_of h) (suc k)).layers ≡ true → is_listed (frame_changes s (pulls_of h) k).list id ≡ false
+  pub items : IsPlayable s → (id : ℕ) → has_layer id (page s (pulls_of h) (suc k)).layers ≡ true → is_listed (frame_changes s (pulls_of h) k).list id ≡ false
       → items_of (page s (pulls_of h) before) id ≡ items_of (page s (pulls_of h) (suc k)) id
   items a id there out =
       let none : is_listed (frame_changes s no_pulls k).list id ≡ false = ap (λ (c : Changed). is_listed c.list id) (sym lists_alike) ∙ out in
@@ -189,7 +189,7 @@ module _ (s : ScriptModel) (workers : ℕ) (h : List Entry) (actor k : ℕ) (leg
       let f = frame_tile (commands_of s k) (plain s k) unchanged (ap (λ (c : Changed). c.retiled) (sym lists_alike) ∙ out) in
       read (λ p. p.view.tile) (λ p. refl) before ∙ ap (λ (p : Page). p.view.tile) (sym same_before) ∙ sym f.1 ∙ sym (read (λ p. p.view.tile) (λ p. refl) (suc k))
 
-  pub first : IsAccepted s → active h ≡ None → (id : ℕ) → has_layer id (page s (pulls_of h) (suc k)).layers ≡ true → is_listed_whole (frame_changes s (pulls_of h) k).list id ≡ true
+  pub first : IsPlayable s → active h ≡ None → (id : ℕ) → has_layer id (page s (pulls_of h) (suc k)).layers ≡ true → is_listed_whole (frame_changes s (pulls_of h) k).list id ≡ true
   first a none id there = by_listed (is_listed_whole (frame_changes s (pulls_of h) k).list id) refl
     where
       by_size : (o : Option PageLayer) → is_some o ≡ true → None ≡ sized o → ⊥

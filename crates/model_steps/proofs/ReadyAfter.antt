@@ -10,7 +10,7 @@ use Rattle.model_history.specs.declared.event.Event.{Event}
 use Rattle.model_history.specs.declared.event.Event.TheVariants as event
 use Rattle.model_history.specs.declared.history.Entry.{Entry}
 use Rattle.model_history.specs.Scripts.{ScriptModel}
-use Rattle.model_history.specs.Accepted.{IsAccepted}
+use Rattle.model_history.specs.Accepted.{IsPlayable}
 use Rattle.model_history.specs.Stamps.{stamp_in}
 use Rattle.model_history.specs.Tiles.{page_keys, without_keys, active_tree, pending_tree, keys_of, live_keys, made_so_far, in_flight, ready}
 use Rattle.model_history.specs.Frames.{page, pulls_of, pending, up_to}
@@ -85,7 +85,7 @@ same_test : (a b : Bool) → (a ≡ true → b ≡ true) → (b ≡ true → a �
 same_test true b f g = sym (f refl)
 same_test false b f g = sym (is_false b (λ t. not_both false (g t) refl))
 
-pub ready_kept : (s : ScriptModel) (n : ℕ) (h : List Entry) (e : Entry) → IsAccepted s → Legal s n (e ∷ h) → made_so_far (e ∷ h) ≡ made_so_far h
+pub ready_kept : (s : ScriptModel) (n : ℕ) (h : List Entry) (e : Entry) → IsPlayable s → Legal s n (e ∷ h) → made_so_far (e ∷ h) ≡ made_so_far h
     → ready s (e ∷ h) ≡ filter (has_key (live_keys s (e ∷ h))) (ready s h)
 ready_kept s n h e acc legal same =
     ap (filter now) same
@@ -112,7 +112,7 @@ no_keys s h e = ap (λ o. page_keys (page s (pulls_of h) (up_to o)) (stamp_in s 
 none_before : (s : ScriptModel) (n : ℕ) (h : List Entry) (a k : ℕ) → Legal s n (commit a k ∷ h) → pending h ≡ None
 none_before s n h a k legal = none_where (pending h) (sym (course s n h legal.0).pending_state ∙ (at_commit s n h a k legal.1).none_pending)
 
-pub commit_ready : (s : ScriptModel) (n : ℕ) (h : List Entry) (a k : ℕ) → IsAccepted s → Legal s n (commit a k ∷ h) → ready s (commit a k ∷ h) ≡ ready s h
+pub commit_ready : (s : ScriptModel) (n : ℕ) (h : List Entry) (a k : ℕ) → IsPlayable s → Legal s n (commit a k ∷ h) → ready s (commit a k ∷ h) ≡ ready s h
 commit_ready s n h a k acc legal = filter_same now before (made_so_far h) (λ q i. same_test (now q) (before q) (was q i) (still q))
   where
     now : TileKey → Bool
@@ -147,7 +147,7 @@ activate_live s n h a k ms legal =
     let o = no_keys s (activate a k ms ∷ h) (none_is_pending s n h a k ms legal) in
     (λ i. keys_of (p i) ++ o i) ∙ all_of (keys_of (pending_tree s h))
 
-pub activate_ready : (s : ScriptModel) (n : ℕ) (h : List Entry) (a k : ℕ) (ms : List Move) → IsAccepted s → Legal s n (activate a k ms ∷ h)
+pub activate_ready : (s : ScriptModel) (n : ℕ) (h : List Entry) (a k : ℕ) (ms : List Move) → IsPlayable s → Legal s n (activate a k ms ∷ h)
     → ready s (activate a k ms ∷ h) ≡ filter (has_key (keys_of (pending_tree s h))) (ready s h)
 activate_ready s n h a k ms acc legal =
     ready_kept s n h (activate a k ms) acc legal refl ∙ ap (λ ks. filter (has_key ks) (ready s h)) (activate_live s n h a k ms legal)

@@ -12,7 +12,7 @@ ghost use Rattle.model_history.specs.declared.history.Entry.{Entry};
 ghost use Rattle.model_history.specs.Scripts.{ScriptModel};
 ghost use Rattle.model_history.specs.Frames.{pending};
 ghost use Rattle.model_history.specs.Scrolls.{clobbers};
-ghost use Rattle.model_history.specs.Accepted.{IsAccepted};
+ghost use Rattle.model_history.specs.Accepted.{IsPlayable};
 ghost use Rattle.model_history.specs.Legal.{Legal};
 ghost use Rattle.model_history.specs.Tiles.{Tree, active_tree, pending_tree, keys_of, live_keys, in_flight, ready, pinned};
 ghost use Rattle.model_history.specs.Ranking.{choice};
@@ -44,7 +44,7 @@ pub fn aborts_leave_the_choice()
 pub fn commits_leave_the_ready_keys()
     ensures pending { (s : ScriptModel) (workers : ℕ) (h : List Entry) (actor k : ℕ) → Legal s workers (commit actor k ∷ h) → pending (commit actor k ∷ h) ≡ Some k }
     ensures active { (s : ScriptModel) (workers : ℕ) (h : List Entry) (actor k : ℕ) → Legal s workers (commit actor k ∷ h) → active_tree s (commit actor k ∷ h) ≡ active_tree s h }
-    ensures ready { (s : ScriptModel) (workers : ℕ) (h : List Entry) (actor k : ℕ) → IsAccepted s → Legal s workers (commit actor k ∷ h) → ready s (commit actor k ∷ h) ≡ ready s h }
+    ensures ready { (s : ScriptModel) (workers : ℕ) (h : List Entry) (actor k : ℕ) → IsPlayable s → Legal s workers (commit actor k ∷ h) → ready s (commit actor k ∷ h) ≡ ready s h }
 {}
 
 /// An activation makes the pending tree the active one, at the same offsets and with the same stamps, and
@@ -53,7 +53,7 @@ pub fn activations_keep_the_pending_tree()
     ensures pending { (s : ScriptModel) (workers : ℕ) (h : List Entry) (actor k : ℕ) (clamps : List Move) → Legal s workers (activate actor k clamps ∷ h) → pending (activate actor k clamps ∷ h) ≡ None }
     ensures active { (s : ScriptModel) (workers : ℕ) (h : List Entry) (actor k : ℕ) (clamps : List Move) → Legal s workers (activate actor k clamps ∷ h) → active_tree s (activate actor k clamps ∷ h) ≡ pending_tree s h }
     ensures live { (s : ScriptModel) (workers : ℕ) (h : List Entry) (actor k : ℕ) (clamps : List Move) → Legal s workers (activate actor k clamps ∷ h) → live_keys s (activate actor k clamps ∷ h) ≡ keys_of (pending_tree s h) }
-    ensures ready { (s : ScriptModel) (workers : ℕ) (h : List Entry) (actor k : ℕ) (clamps : List Move) → IsAccepted s → Legal s workers (activate actor k clamps ∷ h) → ready s (activate actor k clamps ∷ h) ≡ filter (has_key (keys_of (pending_tree s h))) (ready s h) }
+    ensures ready { (s : ScriptModel) (workers : ℕ) (h : List Entry) (actor k : ℕ) (clamps : List Move) → IsPlayable s → Legal s workers (activate actor k clamps ∷ h) → ready s (activate actor k clamps ∷ h) ≡ filter (has_key (keys_of (pending_tree s h))) (ready s h) }
 {}
 
 /// A choice is that of two trees, but for the order of its lists, if its ranks are those of the keys

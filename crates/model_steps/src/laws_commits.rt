@@ -16,7 +16,7 @@ ghost use Rattle.tile_visible.specs.Visible.{grid_of};
 ghost use Rattle.model_history.specs.declared.event.Event.TheVariants as event;
 ghost use Rattle.model_history.specs.declared.history.Entry.{Entry};
 ghost use Rattle.model_history.specs.Scripts.{ScriptModel};
-ghost use Rattle.model_history.specs.Accepted.{IsAccepted};
+ghost use Rattle.model_history.specs.Accepted.{IsPlayable};
 ghost use Rattle.model_history.specs.Frames.{page, pulls_of, active, up_to};
 ghost use Rattle.model_history.specs.Stamps.{frame_changes, commits_to, stamp_in};
 ghost use Rattle.model_history.specs.SameChanges.{SameChanges};
@@ -27,10 +27,10 @@ ghost use Rattle.model_steps.specs.Pages.{items_of};
 /// has its size there, one that it does not list has its display list there too, and if it does not
 /// retile, the tile size is the one there. So the first commit lists all its layers as changed whole.
 pub fn commits_list_what_changed()
-    ensures sizes { (s : ScriptModel) (workers : ℕ) (h : List Entry) (actor k id : ℕ) → IsAccepted s → Legal s workers (record { actor = actor; event = event.Commit k } ∷ h) → has_layer id (page s (pulls_of h) (suc k)).layers ≡ true → is_listed_whole (frame_changes s (pulls_of h) k).list id ≡ false → size_of (page s (pulls_of h) (up_to (active h))) id ≡ size_of (page s (pulls_of h) (suc k)) id }
-    ensures items { (s : ScriptModel) (workers : ℕ) (h : List Entry) (actor k id : ℕ) → IsAccepted s → Legal s workers (record { actor = actor; event = event.Commit k } ∷ h) → has_layer id (page s (pulls_of h) (suc k)).layers ≡ true → is_listed (frame_changes s (pulls_of h) k).list id ≡ false → items_of (page s (pulls_of h) (up_to (active h))) id ≡ items_of (page s (pulls_of h) (suc k)) id }
+    ensures sizes { (s : ScriptModel) (workers : ℕ) (h : List Entry) (actor k id : ℕ) → IsPlayable s → Legal s workers (record { actor = actor; event = event.Commit k } ∷ h) → has_layer id (page s (pulls_of h) (suc k)).layers ≡ true → is_listed_whole (frame_changes s (pulls_of h) k).list id ≡ false → size_of (page s (pulls_of h) (up_to (active h))) id ≡ size_of (page s (pulls_of h) (suc k)) id }
+    ensures items { (s : ScriptModel) (workers : ℕ) (h : List Entry) (actor k id : ℕ) → IsPlayable s → Legal s workers (record { actor = actor; event = event.Commit k } ∷ h) → has_layer id (page s (pulls_of h) (suc k)).layers ≡ true → is_listed (frame_changes s (pulls_of h) k).list id ≡ false → items_of (page s (pulls_of h) (up_to (active h))) id ≡ items_of (page s (pulls_of h) (suc k)) id }
     ensures tile { (s : ScriptModel) (workers : ℕ) (h : List Entry) (actor k : ℕ) → Legal s workers (record { actor = actor; event = event.Commit k } ∷ h) → (frame_changes s (pulls_of h) k).retiled ≡ false → (page s (pulls_of h) (up_to (active h))).view.tile ≡ (page s (pulls_of h) (suc k)).view.tile }
-    ensures first { (s : ScriptModel) (workers : ℕ) (h : List Entry) (actor k id : ℕ) → IsAccepted s → Legal s workers (record { actor = actor; event = event.Commit k } ∷ h) → active h ≡ None → has_layer id (page s (pulls_of h) (suc k)).layers ≡ true → is_listed_whole (frame_changes s (pulls_of h) k).list id ≡ true }
+    ensures first { (s : ScriptModel) (workers : ℕ) (h : List Entry) (actor k id : ℕ) → IsPlayable s → Legal s workers (record { actor = actor; event = event.Commit k } ∷ h) → active h ≡ None → has_layer id (page s (pulls_of h) (suc k)).layers ≡ true → is_listed_whole (frame_changes s (pulls_of h) k).list id ≡ true }
 {}
 
 /// The stamps of a commit's page are those of the active page, stepped by what the commit says that it

@@ -13,7 +13,7 @@ ghost use Rattle.model_history.specs.Frames.{pending, active_page, pending_page}
 ghost use Rattle.model_history.specs.Scrolls.{pending_offset, clobbers, clamp_move, accepted, active_offsets, pending_offsets, next_pulls, next_clamps};
 ghost use Rattle.model_history.specs.ScrollLaws.{frame_in_flight, AreRising};
 ghost use Rattle.model_history.specs.Values.{values};
-ghost use Rattle.model_history.specs.Accepted.{IsAccepted};
+ghost use Rattle.model_history.specs.Accepted.{IsPlayable};
 ghost use Rattle.model_history.specs.Legal.{Legal};
 ghost use Rattle.model_steps.specs.Standing.{active_at, pending_at, clamped_by};
 
@@ -35,5 +35,5 @@ pub fn sends_list_what_is_unheard()
 /// An activation lists the one rising list of moves that brings each scroller of the pending page to its
 /// pending offset.
 pub fn activations_list_the_clamps()
-    ensures { (s : ScriptModel) (workers : ℕ) (h : List Entry) (ms : List Move) → IsAccepted s → Legal s workers h → AreRising ms → ((sc : ℕ) (ax : Axis) → amount_in sc ax ms ≡ cond (has_scroller (pending_page s h) sc) (clamped_by (clobbers s (pending h)) (pending_page s h) (λ sc ax. values s sc ax h) sc ax) (pos 0)) → next_clamps s h ≡ ms }
+    ensures { (s : ScriptModel) (workers : ℕ) (h : List Entry) (ms : List Move) → IsPlayable s → Legal s workers h → AreRising ms → ((sc : ℕ) (ax : Axis) → amount_in sc ax ms ≡ cond (has_scroller (pending_page s h) sc) (clamped_by (clobbers s (pending h)) (pending_page s h) (λ sc ax. values s sc ax h) sc ax) (pos 0)) → next_clamps s h ≡ ms }
 {}

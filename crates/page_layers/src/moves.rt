@@ -7,7 +7,7 @@ use geom::Point;
 /// How far one scroller moved or is to move.
 ///
 /// The sum that is sent to the main side can grow by one scroll range with each frame, so each part
-/// stays below 2^34 in absolute value, which is more than an `i32` holds.
+/// stays below 2^54 in absolute value, which is more than an `i32` holds.
 #[derive(Clone, Copy, PartialEq, Eq, Debug)]
 pub struct Move {
     /// The scroller's number.

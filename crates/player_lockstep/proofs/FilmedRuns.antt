@@ -10,6 +10,7 @@ use Rattle.model_history.specs.declared.event.Event.{Event}
 use Rattle.model_history.specs.declared.event.Event.TheVariants as event
 use Rattle.model_history.specs.declared.history.Entry.{Entry}
 use Rattle.model_history.specs.Accepted.{IsAccepted}
+use Rattle.model_history.proofs.Ranged.{playable}
 use Rattle.model_history.specs.Legal.{Legal, Next}
 use Rattle.model_history.specs.Lockstep.{IsLockstep}
 use Rattle.model_history.specs.Recordings.{image_behind}
@@ -90,7 +91,7 @@ whole_film s old new h lockstep gained =
 
 pub films_nothing : (s : ScriptModel) (held : Option (List ℕ)) → IsAccepted s → (whole : List ℕ) × IsLockstepFilm s whole × GainsPrefix held held whole
 films_nothing s held accepted =
-    let l = lockstep_there s accepted in
+    let l = lockstep_there s (playable s accepted) in
     (film s l.0, (l.0, l.1, refl), gains_nothing held (film s l.0))
 
 -- a compositor before anything was entered

@@ -5,6 +5,7 @@ use Rattle.byte_io.specs.Pieces.{GainsPrefix, WriteCause}
 use Rattle.model_history.specs.declared.history.Entry.{Entry}
 use Rattle.model_history.specs.declared.input.Input.{Input}
 use Rattle.model_history.specs.Accepted.{IsAccepted}
+use Rattle.model_history.proofs.Ranged.{playable}
 use Rattle.model_history.specs.Scripts.{ScriptModel}
 use Rattle.model_history.specs.Lockstep.{IsLockstep}
 use Rattle.model_history.specs.Recordings.{header, pieces, recorded}
@@ -29,7 +30,7 @@ fresh s n = record { run = new_run s n; written = 0 }
 -- it can play the whole run
 pub fresh_can : (s : ScriptModel) (m : SingleModel) (inputs : List Input) → IsFresh s m → IsAccepted s → inputs ≡ s.inputs → CanFollow (whole_played inputs) (walk_of m)
 fresh_can s m inputs (n, is) accepted all =
-    subst (λ (z : SingleModel). CanFollow (whole_played inputs) (walk_of z)) (sym is) (parts.can_play (walk_of (fresh s n)) inputs accepted refl all)
+    subst (λ (z : SingleModel). CanFollow (whole_played inputs) (walk_of z)) (sym is) (parts.can_play (walk_of (fresh s n)) inputs (playable s accepted) refl all)
 
 -- ---- the recording
 
@@ -48,13 +49,13 @@ text_grows s done news =
 -- nothing was written yet
 pub records_nothing : (s : ScriptModel) (held : Option (List ℕ)) → IsAccepted s → (whole : List ℕ) × IsLockstepRecording s whole × GainsPrefix held held whole
 records_nothing s held accepted =
-    let l = lockstep_there s accepted in
+    let l = lockstep_there s (playable s accepted) in
     (recording s l.0, (l.0, l.1, refl), gains_nothing held (recording s l.0))
 
 -- a prefix of the lines before the events was written
 pub records_front : (s : ScriptModel) (old new : Option (List ℕ)) → IsAccepted s → GainsPrefix old new (header (script_text s)) → (whole : List ℕ) × IsLockstepRecording s whole × GainsPrefix old new whole
 records_front s old new accepted front =
-    let l = lockstep_there s accepted in
+    let l = lockstep_there s (playable s accepted) in
     (recording s l.0, (l.0, l.1, refl), subst (λ (w : List ℕ). GainsPrefix old new w) (whole_of s l.0) (gains_longer old new (header (script_text s)) (pieces s [] l.0) front))
 
 -- a run that was recorded or not says the same with its entries

@@ -8,6 +8,7 @@ use Rattle.model_history.specs.Lockstep.{IsLockstep}
 use Rattle.model_history.specs.Scripts.{ScriptModel}
 use Rattle.model_history.proofs.LockstepWords.{lockstep_legal, lockstep_ends}
 use Rattle.model_history.proofs.OneAnswer.{legal_beginning}
+use Rattle.model_history.proofs.Ranged.{playable}
 use Rattle.model_history.proofs.Pins.{required_at_each, lacking_at_each}
 use Rattle.model_history.proofs.ValueReadings.{active_is_value, offset_in_range}
 use Rattle.script_json.proofs.CanonicalTexts.{recording_of}
@@ -21,7 +22,7 @@ use Rattle.player_run.proofs.Activated.{moved_at_each}
 stands_right : (s : ScriptModel) (workers : ℕ) (h : List Entry) (sc : ℕ) (ax : Axis) → IsAccepted s → Legal s workers h → StandsRight s h sc ax
 stands_right s workers h sc ax accepted legal = record {
   stepwise = active_is_value s workers h sc ax legal;
-  in_range = offset_in_range s workers h sc ax accepted legal;
+  in_range = offset_in_range s workers h sc ax (playable s accepted) legal;
 }
 
 -- the prefixes of a legal history are legal

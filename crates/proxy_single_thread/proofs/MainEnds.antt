@@ -9,7 +9,7 @@ use Rattle.model_history.specs.Commits.{CommitModel}
 use Rattle.model_history.specs.EventFields.{sends}
 use Rattle.model_history.specs.Scans.{has_ended, counted}
 use Rattle.model_history.specs.Frames.{pulls_of}
-use Rattle.model_history.specs.Accepted.{IsAccepted}
+use Rattle.model_history.specs.Accepted.{IsPlayable}
 use Rattle.model_history.specs.Ended.{AreBounded}
 use Rattle.model_history.specs.Legal.{sched, Legal}
 use Rattle.model_history.proofs.BoolFacts.{by_test}
@@ -80,7 +80,7 @@ module _ (r : Run) (side : MainSide) (legal : Legal r.script r.workers (past r))
       let lt : length side.host.sends < length r.script.main = omega (arith, count, last, few) in
       subst (λ (s : ScriptModel). length side.host.sends < length s.main) (sym before.run.script) lt
 
-  pub told_bounded : IsAccepted r.script → AreBounded ms
+  pub told_bounded : IsPlayable r.script → AreBounded ms
   told_bounded a = subst (λ (l : List Move). AreBounded l) (sym t.pulls) (pulls_bounded r.script r.workers (past r) k a legal)
 
   pub runs_frame : (host : MainHostModel) (e : MainEnd) (changed : Bool) → host ≡ with_frame side.host ms → IsEnd side.host ms e → changed ≡ is_ready e → IsMain r (record { host = host; end = Some e; changed = changed })

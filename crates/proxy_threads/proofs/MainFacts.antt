@@ -155,7 +155,7 @@ module _ (p q : Seat) (x : Told) (hold : Holding p q (Listens x)) (actor : p.act
         stands = subst (λ (r : Run). HasSeenRun q r) same hold.stands;
         actor = actor_after;
         going = tells.0.going;
-        accepted = hold.sees.accepted;
+        playable = hold.sees.playable;
         frame = tells.1.0;
         told = tells.1.1;
         changed = u.changed;

@@ -1,13 +1,13 @@
--- The inputs of an accepted script: how many there are, and which scrollers and amounts they name.
+-- The inputs of a playable script: how many there are, and which scrollers and amounts they name.
 use Rattle.std.proofs.Common.{◌≡◌, ℕ, zero, suc, ◌<◌, ◌≤◌, ◌&&◌, Bool, true, Some, List, [], ◌∷◌, length, subst, arith}
-use Rattle.std.specs.Prelude.{ℤ, pos, neg_ℤ, slice_get, nat_le, int_le}
+use Rattle.std.specs.Prelude.{ℤ, pos, neg_ℤ, ◌^◌, slice_get, nat_le, int_le}
 use Rattle.std.specs.List.{list_all}
 use Rattle.std.proofs.lemmas.Bool.Decides.{nat_tests}
 use Rattle.std.proofs.lemmas.Int.{ints}
 use Rattle.model_history.specs.declared.input.Input.{Input}
 use Rattle.model_history.specs.declared.input.Input.TheVariants as input
-use Rattle.model_history.specs.Accepted.{IsAccepted}
-use Rattle.model_history.specs.Ranges.{in_range, input_in_range, draw_count, head_in_range, main_in_range, inputs_in_range, is_in_ranges, is_amount}
+use Rattle.model_history.specs.Accepted.{IsPlayable}
+use Rattle.model_history.specs.Ranges.{in_range, input_in_range, is_amount}
 use Rattle.model_history.specs.Scripts.{ScriptModel}
 use Rattle.model_history.proofs.BoolFacts.{and_left, and_right}
 use Rattle.recording_check.proofs.MovesFit.{IsAmount}
@@ -21,20 +21,11 @@ input_at p (y ∷ ys) (suc i) x all e = let r = input_at p ys i x (and_right (p 
 at_most : (n m : ℕ) → nat_le n m ≡ true → n ≤ m
 at_most n m e = grind (arith, nat_tests, e)
 
-inputs_range : (s : ScriptModel) → is_in_ranges s ≡ true → inputs_in_range (length s.main) s.inputs ≡ true
-unfolding is_in_ranges
-inputs_range s e = and_right (head_in_range s && main_in_range s.version s.main) (inputs_in_range (length s.main) s.inputs) e
-
--- an input that is there is one of the first 65536, and its numbers are in their ranges
-pub input_there : (s : ScriptModel) → IsAccepted s → (i : ℕ) (x : Input) → slice_get s.inputs i ≡ Some x → (i < 65536) × (input_in_range (length s.main) x ≡ true)
-input_there s accepted i x e =
-    let range = inputs_range s accepted.ranges in
-    let count = nat_le (length s.inputs) 65536 in
-    let each = list_all (input_in_range (length s.main)) s.inputs in
-    let draws = nat_le (draw_count s.inputs) 4096 in
-    let two : count && each ≡ true = and_left (count && each) draws range in
-    let r = input_at (input_in_range (length s.main)) s.inputs i x (and_right count each two) e in
-    let few = at_most (length s.inputs) 65536 (and_left count each two) in
+-- an input that is there can be counted in 32 bits, and its numbers are in their ranges
+pub input_there : (s : ScriptModel) → IsPlayable s → (i : ℕ) (x : Input) → slice_get s.inputs i ≡ Some x → (i < 2 ^ 32) × (input_in_range (length s.main) x ≡ true)
+input_there s playable i x e =
+    let r = input_at (input_in_range (length s.main)) s.inputs i x playable.inputs e in
+    let few = playable.few_inputs in
     (omega (arith, r.0, few), r.1)
 
 ranged : (low high n : ℕ) → in_range low high n ≡ true → n ≤ high

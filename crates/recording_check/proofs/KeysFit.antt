@@ -1,6 +1,6 @@
--- The keys of the tiles of an accepted script fit the format.
+-- The keys of the tiles of a playable script fit the format.
 use Rattle.std.proofs.Common.{◌≡◌, ◌⊎◌, inl, inr, ℕ, zero, suc, ◌<◌, ◌≤◌, ◌==◌, ◌||◌, Bool, true, false, cond, Option, Some, None, List, [], ◌∷◌, refl, ap, sym, ◌∙◌, subst, arith, Ok}
-use Rattle.std.specs.Prelude.{ℤ, pos, if◌then◌else◌, nat_lt, unwrap_or}
+use Rattle.std.specs.Prelude.{ℤ, pos, ◌^◌, if◌then◌else◌, nat_lt, unwrap_or}
 use Rattle.std.specs.List.{find, AllByRecursion}
 use Rattle.geom.specs.declared.rect.Point.{Point}
 use Rattle.geom.specs.declared.tile.Place.{Place}
@@ -23,7 +23,7 @@ use Rattle.impl_ranks.proofs.GridPlaces.{place_had}
 use Rattle.impl_ranks.proofs.SeenLayers.{has_in}
 use Rattle.model_history.specs.declared.history.Entry.{Entry}
 use Rattle.model_history.specs.Scripts.{ScriptModel}
-use Rattle.model_history.specs.Accepted.{IsAccepted}
+use Rattle.model_history.specs.Accepted.{IsPlayable}
 use Rattle.model_history.specs.EventFields.{sends}
 use Rattle.model_history.specs.Frames.{page, pulls_of, up_to, active, pending}
 use Rattle.model_history.specs.Legal.{Legal}
@@ -36,7 +36,7 @@ use Rattle.model_history.proofs.BoolFacts.{and_left, and_right, or_either, same_
 use Rattle.model_history.proofs.Course.{course}
 use Rattle.model_history.proofs.FindKeys.{has_place, key_on, key_of_page}
 use Rattle.model_history.proofs.KeyFacts.{has_append, has_filter, has_in as key_has}
-use Rattle.model_history.proofs.RangeBounds.{few_frames, sent_few}
+use Rattle.model_history.proofs.RangeBounds.{sent_few}
 use Rattle.model_history.proofs.ScriptPages.{plain_page}
 use Rattle.model_history.proofs.StampFacts.{visible_is_key}
 use Rattle.recording_text.specs.Fits.{FitsKey, FitKeys}
@@ -79,18 +79,18 @@ sides_of w h ok =
     let b = count_facts h 1 16384 first.2 in
     (record { low = a.0; high = a.1 }, record { low = b.0; high = b.1 })
 
-page_layers : (s : ScriptModel) (ps : ℕ → List Move) (n : ℕ) → IsAccepted s → AllByRecursion (IsLayer (page s ps n).props (page s ps n).used) (page s ps n).layers
-page_layers s ps n accepted = subst (λ (z : Page). AllByRecursion (IsLayer z.props z.used) z.layers) (sym (page_bare s ps n)) (plain_page s accepted n).layers
+page_layers : (s : ScriptModel) (ps : ℕ → List Move) (n : ℕ) → IsPlayable s → AllByRecursion (IsLayer (page s ps n).props (page s ps n).used) (page s ps n).layers
+page_layers s ps n playable = subst (λ (z : Page). AllByRecursion (IsLayer z.props z.used) z.layers) (sym (page_bare s ps n)) (plain_page s playable n).layers
 
-module _ (s : ScriptModel) (ps : ℕ → List Move) (n : ℕ) (accepted : IsAccepted s) (few : n ≤ 4096) where
+module _ (s : ScriptModel) (ps : ℕ → List Move) (n : ℕ) (playable : IsPlayable s) (few : n < 2 ^ 32) where
   abbrev shown : Page
   shown = page s ps n
 
   distinct : AreDistinctLayers shown.layers
-  distinct = subst (λ (z : Page). AreDistinctLayers z.layers) (sym (page_bare s ps n)) (plain_page s accepted n).distinct
+  distinct = subst (λ (z : Page). AreDistinctLayers z.layers) (sym (page_bare s ps n)) (plain_page s playable n).distinct
 
   view : IsView shown.view
-  view = subst (λ (z : Page). IsView z.view) (sym (page_bare s ps n)) (plain_page s accepted n).view
+  view = subst (λ (z : Page). IsView z.view) (sym (page_bare s ps n)) (plain_page s playable n).view
 
   tile_side : IsLayerSide shown.view.tile
   tile_side = record { low = omega (arith, view.tile_low); high = omega (arith, view.tile_high) }
@@ -98,7 +98,7 @@ module _ (s : ScriptModel) (ps : ℕ → List Move) (n : ℕ) (accepted : IsAcce
   on_layer : (q : TileKey) (o : Option PageLayer) → find (has_id q.layer) shown.layers ≡ o → key_on shown (stamp_in s ps n) q o ≡ true → FitsKey q
   on_layer q None e on = absurd cc
   on_layer q (Some l) e on =
-      let is : IsLayer shown.props shown.used l = each-found (IsLayer shown.props shown.used) (has_id q.layer) shown.layers l e (page_layers s ps n accepted) in
+      let is : IsLayer shown.props shown.used l = each-found (IsLayer shown.props shown.used) (has_id q.layer) shown.layers l e (page_layers s ps n playable) in
       let id : l.id ≡ q.layer = found_id q.layer shown.layers l e in
       let low : l.id ≤ 65535 = low_id l.id is.id in
       let sides = sides_of l.w l.h is.size in
@@ -121,27 +121,27 @@ up_to_few : (o : Option ℕ) (m : ℕ) → ((k : ℕ) → o ≡ Some k → k < m
 up_to_few None m f = omega arith
 up_to_few (Some k) m f = let l = f k refl in omega (arith, l)
 
-module _ (s : ScriptModel) (workers : ℕ) (h : List Entry) (accepted : IsAccepted s) (legal : Legal s workers h) where
-  pub frames : counted sends h ≤ 4096
-  frames = let a = few_frames s accepted in let b = sent_few s workers h legal in omega (arith, a, b)
+module _ (s : ScriptModel) (workers : ℕ) (h : List Entry) (playable : IsPlayable s) (legal : Legal s workers h) where
+  pub frames : counted sends h < 2 ^ 32
+  frames = let a = playable.few_frames in let b = sent_few s workers h legal in omega (arith, a, b)
 
-  active_few : up_to (active h) ≤ 4096
+  active_few : up_to (active h) < 2 ^ 32
   active_few =
       let c = course s workers h legal in
       let l = up_to_few (active h) (counted sends h) (λ k e. c.committed_below k (c.activated_committed k (c.active_activated k e))) in
       omega (arith, l, frames)
 
-  pending_few : up_to (pending h) ≤ 4096
+  pending_few : up_to (pending h) < 2 ^ 32
   pending_few =
       let c = course s workers h legal in
       let l = up_to_few (pending h) (counted sends h) (λ k e. c.committed_below k (c.pending_committed k e)) in
       omega (arith, l, frames)
 
   active_key_fits : (q : TileKey) → has_key (keys_of (active_tree s h)) q ≡ true → FitsKey q
-  active_key_fits = key_fits s (pulls_of h) (up_to (active h)) accepted active_few
+  active_key_fits = key_fits s (pulls_of h) (up_to (active h)) playable active_few
 
   pending_key_fits : (q : TileKey) → has_key (keys_of (pending_tree s h)) q ≡ true → FitsKey q
-  pending_key_fits = key_fits s (pulls_of h) (up_to (pending h)) accepted pending_few
+  pending_key_fits = key_fits s (pulls_of h) (up_to (pending h)) playable pending_few
 
   pub live_key_fits : (q : TileKey) → has_key (live_keys s h) q ≡ true → FitsKey q
   live_key_fits q there = by_or (or_either (has_key (keys_of (active_tree s h)) q) (has_key (keys_of (pending_tree s h)) q) (sym (has_append (keys_of (active_tree s h)) (keys_of (pending_tree s h)) q) ∙ there))
@@ -173,9 +173,9 @@ last_low p used test (l ∷ ls) all = go (last_covering test ls == 0) (test l) (
     go true false rest = omega arith
     go false b rest = rest
 
-pub target_low : (s : ScriptModel) (ps : ℕ → List Move) (n : ℕ) → IsAccepted s → (offset : ℕ → Point) (x y : ℤ) → target (page s ps n) offset x y ≤ 65535
+pub target_low : (s : ScriptModel) (ps : ℕ → List Move) (n : ℕ) → IsPlayable s → (offset : ℕ → Point) (x y : ℤ) → target (page s ps n) offset x y ≤ 65535
 unfolding target
-target_low s ps n accepted offset x y = last_low (page s ps n) (λ p. p.used) (covers_point (page s ps n) offset x y) (page s ps n).layers (page_layers s ps n accepted)
+target_low s ps n playable offset x y = last_low (page s ps n) (λ p. p.used) (covers_point (page s ps n) offset x y) (page s ps n).layers (page_layers s ps n playable)
 
 -- ---- lists of keys
 

@@ -20,7 +20,7 @@ use Rattle.page_layers.specs.Scrolls.{clamp_to, IsInRange}
 use Rattle.page_layers.specs.Wheels.{chain_parts, chain_rest, chain_or_none, chain_at}
 use Rattle.page_layers.proofs.TestFacts.{add_scroller_facts}
 use Rattle.model_history.specs.Scripts.{ScriptModel}
-use Rattle.model_history.specs.Accepted.{IsAccepted, TakesAll}
+use Rattle.model_history.specs.Accepted.{IsPlayable, TakesAll}
 use Rattle.model_history.specs.Frames.{commands_of, page}
 use Rattle.model_history.specs.ScrollLaws.{IsSmall, AreSmall}
 use Rattle.model_history.proofs.BarePages.{page_bare}
@@ -53,12 +53,12 @@ low_commanded : (cs : List Command) (p : Page) → HasLow p → TakesAll p cs �
 low_commanded [] p low t = low
 low_commanded (c ∷ cs) p low t = low_commanded cs (page_after_command p c) (low_after p c low t.0.passes) t.1
 
-plain_low : (s : ScriptModel) → IsAccepted s → (n : ℕ) → HasLow (plain s n)
-plain_low s accepted zero = tt
-plain_low s accepted (suc k) = low_commanded (commands_of s k) (plain s k) (plain_low s accepted k) (plain_takes s accepted k)
+plain_low : (s : ScriptModel) → IsPlayable s → (n : ℕ) → HasLow (plain s n)
+plain_low s playable zero = tt
+plain_low s playable (suc k) = low_commanded (commands_of s k) (plain s k) (plain_low s playable k) (plain_takes s playable k)
 
-pub page_low : (s : ScriptModel) (ps : ℕ → List Move) (n : ℕ) → IsAccepted s → AreLow (ids (page s ps n).props.scrollers)
-page_low s ps n accepted = subst (λ (z : Page). AreLow (ids z.props.scrollers)) (sym (page_bare s ps n)) (plain_low s accepted n)
+pub page_low : (s : ScriptModel) (ps : ℕ → List Move) (n : ℕ) → IsPlayable s → AreLow (ids (page s ps n).props.scrollers)
+page_low s ps n playable = subst (λ (z : Page). AreLow (ids z.props.scrollers)) (sym (page_bare s ps n)) (plain_low s playable n)
 
 low_put : (id : ℕ) (ns : List ℕ) → id ≤ 65535 → AreLow ns → AreLow (put_id id ns)
 low_put id [] one low = (one, tt)

@@ -12,6 +12,7 @@ use Rattle.model_history.specs.Scripts.{ScriptModel}
 use Rattle.model_history.proofs.BoolFacts.{below, or_left_false}
 use Rattle.model_history.proofs.Course.{course}
 use Rattle.model_history.proofs.DueFacts.{entry, at_activate}
+use Rattle.model_history.proofs.Ranged.{playable}
 use Rattle.model_history.proofs.RangeBounds.{sent_few}
 use Rattle.script_json.specs.Recordings.{recording}
 use Rattle.recording_text.specs.Pieces.{entry_of, is_end}
@@ -85,7 +86,7 @@ ends_here s h (e ∷ before) accepted legal =
     let next : Next s 16 h e = rest.legal.1 in
     let goes : is_last e.event ≡ false = or_left_false (is_last e.event) (has_ended h) rest.going in
     let recorded : IsRecorded s e = record {
-      fits = event_fits s 16 h e.actor e.event accepted (omega arith) rest.legal;
+      fits = event_fits s 16 h e.actor e.event (playable s accepted) (omega arith) rest.legal;
       named = frame_there s 16 h e.actor e.event rest.legal.0 next goes;
       actor = actor_is s h e next;
     } in

@@ -3,7 +3,7 @@
 ghost use Rattle.std.specs.Prelude.{◌≡◌, ℕ, ◌≤◌, List, [], ◌∷◌, ◌++◌};
 ghost use Rattle.model_history.specs.declared.event.Event.TheVariants as event;
 ghost use Rattle.model_history.specs.declared.history.Entry.{Entry};
-ghost use Rattle.model_history.specs.Accepted.{IsAccepted};
+ghost use Rattle.model_history.specs.Accepted.{IsAccepted, IsPlayable};
 ghost use Rattle.model_history.specs.FrameLaws.{AtEach};
 ghost use Rattle.model_history.specs.Legal.{Legal, IsLegal};
 ghost use Rattle.model_history.specs.Scripts.{ScriptModel};
@@ -51,10 +51,10 @@ pub fn a_refusal_has_one_place()
     ensures wrong { (workers event other : ℕ) (bytes : List ℕ) → IsFirstWrongEvent workers bytes event → IsFirstWrongEvent workers bytes other → event ≡ other }
 {}
 
-/// The events of a legal past of an accepted script fit the format: each number that they name fits the
+/// The events of a legal past of a playable script fit the format: each number that they name fits the
 /// type of its field. With more than 65,536 workers a worker's number might not.
 pub fn legal_events_fit()
-    ensures { (s : ScriptModel) (workers : ℕ) (past : List Entry) → IsAccepted s → workers ≤ 65536 → Legal s workers past → AtEach (λ before entry. FitsEvent entry.event) past }
+    ensures { (s : ScriptModel) (workers : ℕ) (past : List Entry) → IsPlayable s → workers ≤ 65536 → Legal s workers past → AtEach (λ before entry. FitsEvent entry.event) past }
 {}
 
 /// What is written is what [`check`](crate::check) takes: the recording of an accepted script and of a history

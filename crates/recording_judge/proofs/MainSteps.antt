@@ -8,7 +8,7 @@ use Rattle.model_history.specs.declared.event.Event.{Event}
 use Rattle.model_history.specs.declared.event.Event.TheVariants as event
 use Rattle.model_history.specs.declared.history.Entry.{Entry}
 use Rattle.model_history.specs.Scripts.{ScriptModel}
-use Rattle.model_history.specs.Accepted.{IsAccepted}
+use Rattle.model_history.specs.Accepted.{IsPlayable}
 use Rattle.model_history.specs.Commits.{CommitModel, IsCommit}
 use Rattle.model_history.specs.Ended.{AreBounded}
 use Rattle.model_history.specs.EventFields.{sends}
@@ -83,7 +83,7 @@ begin_main s side script none = record {
 
 -- a frame is sent
 
-module _ (s : ScriptModel) (n : ℕ) (h : List Entry) (a k : ℕ) (ms : List Move) (accepted : IsAccepted s) (legal : Legal s n (send a k ms ∷ h)) (side : JudgedMain) (m : IsMain s h side) where
+module _ (s : ScriptModel) (n : ℕ) (h : List Entry) (a k : ℕ) (ms : List Move) (accepted : IsPlayable s) (legal : Legal s n (send a k ms ∷ h)) (side : JudgedMain) (m : IsMain s h side) where
   abbrev sent : List Entry
   sent = send a k ms ∷ h
 

@@ -21,7 +21,7 @@ use Rattle.model_steps.proofs.TreesAfter.{send_ready, send_choice, abort_choice}
 use Rattle.impl_scroll.specs.Standings.{StandingModel, StandsForPast, uses_scroll}
 use Rattle.impl_choice.proofs.SameTiles.{same_tiles, same_after_commit}
 use Rattle.impl_choice.specs.Rebuilds.{leaves_tiles}
-use Rattle.model_history.specs.Accepted.{IsAccepted}
+use Rattle.model_history.specs.Accepted.{IsPlayable}
 use Rattle.impl_host.specs.Hosts.{ImplHostModel, Hosts, with_standing}
 use Rattle.geom.specs.declared.tile.TileKey.{TileKey}
 use Rattle.geom.specs.KeyLists.{has_key}
@@ -66,7 +66,7 @@ scroll_keys s h a e t = held_same s h a e (scroll_leaves e t)
 pub abort_keys : (s : ScriptModel) (h : List Entry) (a k : ℕ) → HaveSameKeys s h (abort a k ∷ h)
 abort_keys s h a k = record { tiles = same_tiles s h (abort a k) refl; held = λ w. refl }
 
-pub commit_keys : (s : ScriptModel) (n : ℕ) (h : List Entry) (a k : ℕ) → IsAccepted s → Legal s n (commit a k ∷ h) → HaveSameKeys s h (commit a k ∷ h)
+pub commit_keys : (s : ScriptModel) (n : ℕ) (h : List Entry) (a k : ℕ) → IsPlayable s → Legal s n (commit a k ∷ h) → HaveSameKeys s h (commit a k ∷ h)
 commit_keys s n h a k accepted legal = record { tiles = same_after_commit s n h a k accepted legal; held = λ w. refl }
 
 abbrev Choices : Option Choice → Choice → Type 0

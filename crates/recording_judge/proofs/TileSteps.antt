@@ -17,7 +17,7 @@ use Rattle.page_layers.specs.declared.moves.Move.{Move}
 use Rattle.tile_queue.specs.Queues.{MayStartWith, IsNew, AreEvictedFor, rank_key, tile_key}
 use Rattle.model_history.specs.declared.history.Entry.{Entry}
 use Rattle.model_history.specs.Scripts.{ScriptModel}
-use Rattle.model_history.specs.Accepted.{IsAccepted}
+use Rattle.model_history.specs.Accepted.{IsPlayable}
 use Rattle.model_history.specs.Legal.{Legal}
 use Rattle.model_history.specs.Scans.{held}
 use Rattle.model_history.specs.Tiles.{live_keys, made_so_far, in_flight, ready, required, pending_tree, keys_of}
@@ -183,7 +183,7 @@ kept_alive true true = refl
 kept_alive true false = refl
 kept_alive false l = refl
 
-pub activate_holds : (s : ScriptModel) (n : ℕ) (h : List Entry) (a k : ℕ) (ms : List Move) (t u : TileKeys) (dead : List TileKey) → IsAccepted s → Legal s n (activate a k ms ∷ h) → Holds s n h t
+pub activate_holds : (s : ScriptModel) (n : ℕ) (h : List Entry) (a k : ℕ) (ms : List Move) (t u : TileKeys) (dead : List TileKey) → IsPlayable s → Legal s n (activate a k ms ∷ h) → Holds s n h t
     → dead ≡ filter (λ q. not (has_key (keys_of (pending_tree s h)) q)) t.ready → ((q : TileKey) → has_key u.ready q ≡ (has_key t.ready q && not (has_key dead q)))
     → ((q : TileKey) → has_key u.pins q ≡ has_key (required s h) q) → u.held.items ≡ t.held.items → u.queue ≡ None → Holds s n (activate a k ms ∷ h) u
 activate_holds s n h a k ms t u dead accepted legal holds are_dead gone needed held none = record {

@@ -3,7 +3,7 @@
 ghost use Rattle.std.specs.Prelude.{◌≡◌, ◌∷◌, ℕ, List, true, false, OnOk};
 ghost use Rattle.model_history.specs.declared.history.Entry.{Entry};
 ghost use Rattle.model_history.specs.Scripts.{ScriptModel};
-ghost use Rattle.model_history.specs.Accepted.{IsAccepted};
+ghost use Rattle.model_history.specs.Accepted.{IsPlayable};
 ghost use Rattle.model_history.specs.EventFields as fields;
 ghost use Rattle.model_history.specs.Frames.{pending, pulls_of};
 ghost use Rattle.model_history.specs.Scrolls.{clobbers};
@@ -73,7 +73,7 @@ pub(crate) fn commit_to_host(
     end: Option<MainEnd>,
 ) -> Result<(), AllocError>
     requires { HostCommits script.now host.old frame end }
-    ensures { OnOk result ((workers : ℕ) (h : List Entry) (actor : ℕ) → IsAccepted script.now → Legal script.now workers (commit actor frame ∷ h) → Hosts script.now h host.old → IsCommitted script.now (pulls_of h) frame end → Hosts script.now (commit actor frame ∷ h) host.new) }
+    ensures { OnOk result ((workers : ℕ) (h : List Entry) (actor : ℕ) → IsPlayable script.now → Legal script.now workers (commit actor frame ∷ h) → Hosts script.now h host.old → IsCommitted script.now (pulls_of h) frame end → Hosts script.now (commit actor frame ∷ h) host.new) }
 {
     let Some(commit) = commit_of(end) else {
         unreachable!()

@@ -4,7 +4,7 @@ ghost use Rattle.std.specs.Prelude.{◌≡◌, ◌∷◌, ℕ, [], List, true, O
 ghost use Rattle.model_states.specs.declared.kind.Kind.TheVariants as kind;
 ghost use Rattle.model_history.specs.declared.history.Entry.{Entry};
 ghost use Rattle.model_history.specs.Scripts.{ScriptModel};
-ghost use Rattle.model_history.specs.Accepted.{IsAccepted};
+ghost use Rattle.model_history.specs.Accepted.{IsPlayable};
 ghost use Rattle.model_history.specs.Due.{due};
 ghost use Rattle.model_history.specs.Legal.{is_open, Legal};
 ghost use Rattle.model_steps.specs.Events.{send};
@@ -64,7 +64,7 @@ impl JudgedMain {
     /// A main frame is sent with these pulls, and is run. An error means out of memory.
     pub(crate) fn send(&mut self, pulls: &Moves) -> Result<(), AllocError>
         requires { MainSends self.old pulls.now }
-        ensures { OnOk result ((s : ScriptModel) (workers : ℕ) (h : List Entry) (actor k : ℕ) → IsAccepted s → Legal s workers (send actor k pulls.now ∷ h) → IsMain s h self.old → IsMain s (send actor k pulls.now ∷ h) self.new) }
+        ensures { OnOk result ((s : ScriptModel) (workers : ℕ) (h : List Entry) (actor k : ℕ) → IsPlayable s → Legal s workers (send actor k pulls.now ∷ h) → IsMain s h self.old → IsMain s (send actor k pulls.now ∷ h) self.new) }
     {
         let end = self.host.begin(pulls)?;
         self.end = Some(end);

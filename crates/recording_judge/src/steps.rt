@@ -4,7 +4,7 @@ ghost use Rattle.std.specs.Prelude.{◌≡◌, ◌∷◌, ℕ, List, true, false
 ghost use Rattle.model_history.specs.declared.event.Event.TheVariants as variant;
 ghost use Rattle.model_history.specs.declared.history.Entry.{Entry};
 ghost use Rattle.model_history.specs.Scripts.{ScriptModel};
-ghost use Rattle.model_history.specs.Accepted.{IsAccepted};
+ghost use Rattle.model_history.specs.Accepted.{IsPlayable};
 ghost use Rattle.model_history.specs.EventFields as fields;
 ghost use Rattle.model_history.specs.Legal.{Legal};
 ghost use Rattle.model_steps.specs.Events.{activate};
@@ -51,7 +51,7 @@ fn activate_tiles(
     moves: &[Move],
 ) -> Result<(), AllocError>
     requires { HostActivates host.now moves.now }
-    ensures { OnOk result ((s : ScriptModel) (workers : ℕ) (h : List Entry) (actor k : ℕ) → IsAccepted s → Legal s workers (activate actor k moves.now ∷ h) → Hosts s h host.now → Holds s workers h tiles.old → Holds s workers (activate actor k moves.now ∷ h) tiles.new) }
+    ensures { OnOk result ((s : ScriptModel) (workers : ℕ) (h : List Entry) (actor k : ℕ) → IsPlayable s → Legal s workers (activate actor k moves.now ∷ h) → Hosts s h host.now → Holds s workers h tiles.old → Holds s workers (activate actor k moves.now ∷ h) tiles.new) }
 {
     // The contract alone speaks of the moves.
     let _ = moves;

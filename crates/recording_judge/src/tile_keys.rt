@@ -9,7 +9,7 @@ ghost use Rattle.page_layers.specs.declared.moves.Move.{Move};
 ghost use Rattle.tile_queue.specs.Queues.{rank_key, MayStartWith, IsNew};
 ghost use Rattle.model_history.specs.declared.history.Entry.{Entry};
 ghost use Rattle.model_history.specs.Scripts.{ScriptModel};
-ghost use Rattle.model_history.specs.Accepted.{IsAccepted};
+ghost use Rattle.model_history.specs.Accepted.{IsPlayable};
 ghost use Rattle.model_history.specs.Legal.{Legal};
 ghost use Rattle.model_history.specs.Scans as scans;
 ghost use Rattle.model_history.specs.Tiles as model;
@@ -268,7 +268,7 @@ impl TileKeys {
     /// The pending tree, which needs these keys, becomes the active one: they are pinned, the ready keys that
     /// the tree lacks are dropped, and the queue is forgotten. An error means out of memory.
     pub(crate) fn activate(&mut self, needed: &Keys, tree: &SeenTree<'_>) -> Result<(), AllocError>
-        ensures { OnOk result ((s : ScriptModel) (workers : ℕ) (h : List Entry) (actor k : ℕ) (clamps : List Move) → IsAccepted s → Legal s workers (activate actor k clamps ∷ h) → Holds s workers h self.old → needed.now ≡ required s h → IsSeenTree (pending_tree s h) tree.now → Holds s workers (activate actor k clamps ∷ h) self.new) }
+        ensures { OnOk result ((s : ScriptModel) (workers : ℕ) (h : List Entry) (actor k : ℕ) (clamps : List Move) → IsPlayable s → Legal s workers (activate actor k clamps ∷ h) → Holds s workers h self.old → needed.now ≡ required s h → IsSeenTree (pending_tree s h) tree.now → Holds s workers (activate actor k clamps ∷ h) self.new) }
     {
         let keys = self.ready.list(self.alloc)?;
         let dead = dead_of(self.alloc, tree, keys.as_slice())?;

@@ -2,7 +2,7 @@
 use Rattle.std.specs.Prelude.{ℕ, List, ◌∷◌, Option}
 use Rattle.model_history.specs.declared.history.Entry.{Entry}
 use Rattle.model_history.specs.Scripts.{ScriptModel}
-use Rattle.model_history.specs.Accepted.{IsAccepted}
+use Rattle.model_history.specs.Accepted.{IsPlayable}
 use Rattle.model_history.specs.Frames.{pulls_of}
 use Rattle.model_history.specs.Legal.{Legal}
 use Rattle.model_steps.specs.Events.{commit}
@@ -15,7 +15,7 @@ pub record PushesNow (s : ScriptModel) (host : ImplHostModel) (k : ℕ) (prepare
   pub workers : ℕ
   pub past : List Entry
   pub actor : ℕ
-  pub accepted : IsAccepted s
+  pub playable : IsPlayable s
   pub legal : Legal s workers (commit actor k ∷ past)
   pub hosts : Hosts s past host
   pub is_prepared : IsPrepared s (pulls_of past) k prepared

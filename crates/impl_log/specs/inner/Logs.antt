@@ -1,5 +1,5 @@
 -- What a log keeps.
-use Rattle.std.specs.Prelude.{◌≡◌, ◌≤◌, ℕ, suc, true, false, List, length}
+use Rattle.std.specs.Prelude.{◌≡◌, ◌<◌, ◌≤◌, ◌-◌, ◌^◌, ℕ, suc, true, false, List, length}
 use Rattle.model_states.specs.declared.kind.Kind.TheVariants as kind
 use Rattle.model_states.specs.Kinds.{may}
 use Rattle.impl_log.specs.declared.progress.Progress.{Progress}
@@ -24,10 +24,10 @@ pub record IsLogOf (s : ScriptModel) (workers : ℕ) (h : List Entry) (p : Progr
   pub older : places.older ≡ forgettable h
   pub first : front ≤ forgettable h
 
--- one event more may step the progress: the scheduler's state allows it, the counts are small, and what is made was in flight
+-- one event more may step the progress: the scheduler's state allows it, the counts can be raised, and what is made was in flight
 pub record MayStep (p : Progress) (e : Event) : Type 0 where
   pub state : may p.sched (kind_of e) ≡ true
-  pub few_inputs : p.inputs ≤ 65536
-  pub few_sends : p.sends ≤ 65536
+  pub few_inputs : p.inputs < 2 ^ 32 - 1
+  pub few_sends : p.sends < 2 ^ 32 - 1
   pub few_in_flight : p.in_flight ≤ 16
   pub held : kind_of e ≡ kind.Done → 1 ≤ p.in_flight

@@ -8,7 +8,7 @@ use Rattle.page_layers.specs.Scrollers.{most, offsets_in}
 use Rattle.model_history.specs.declared.history.Entry.{Entry}
 use Rattle.model_history.specs.Scripts.{ScriptModel}
 use Rattle.model_history.specs.Values.{values}
-use Rattle.model_history.specs.Accepted.{IsAccepted}
+use Rattle.model_history.specs.Accepted.{IsPlayable}
 use Rattle.model_history.specs.Legal.{Legal}
 use Rattle.impl_scroll.specs.declared.row.Row.{Row}
 use Rattle.impl_scroll.specs.Rows.{row_value, has_number}
@@ -47,7 +47,7 @@ pub record RowsNow (rs : List Row) (seen : Pages) : Type 0 where
   pub script : ScriptModel
   pub workers : ℕ
   pub past : List Entry
-  pub accepted : IsAccepted script
+  pub playable : IsPlayable script
   pub legal : Legal script workers past
   pub rows : AreValues script past rs
   pub pages : ArePages script past seen

@@ -54,8 +54,8 @@ fn clamped_point(max_x: u32, max_y: u32, x: i32, y: i32) -> Point
 
 // A coordinate moved by an amount.
 fn sum(at: i32, by: i64) -> i64
-    requires low { neg_ℤ (pos (2 ^ 39)) <ℤ by }
-    requires high { by <ℤ pos (2 ^ 39) }
+    requires low { neg_ℤ (pos (2 ^ 58)) <ℤ by }
+    requires high { by <ℤ pos (2 ^ 58) }
     ensures { result ≡ at +ℤ by }
 {
     at as i64 + by
@@ -141,10 +141,10 @@ impl LayerTree {
 
     // Adds to the main value of a scroller, clamped to its range.
     fn scroll_more(&mut self, id: u32, dx: i64, dy: i64)
-        requires left { neg_ℤ (pos (2 ^ 39)) <ℤ dx }
-        requires right { dx <ℤ pos (2 ^ 39) }
-        requires up { neg_ℤ (pos (2 ^ 39)) <ℤ dy }
-        requires down { dy <ℤ pos (2 ^ 39) }
+        requires left { neg_ℤ (pos (2 ^ 58)) <ℤ dx }
+        requires right { dx <ℤ pos (2 ^ 58) }
+        requires up { neg_ℤ (pos (2 ^ 58)) <ℤ dy }
+        requires down { dy <ℤ pos (2 ^ 58) }
         ensures { self.new ≡ scrolled_by self.old id dx dy }
     {
         let old = self.value(id);
@@ -215,13 +215,13 @@ impl LayerTree {
 
     /// Adds to the main value of a scroller and clamps it to its range; answers the change.
     ///
-    /// The amounts are below 2^39 in absolute value.
+    /// The amounts are below 2^58 in absolute value.
     pub fn pull(&mut self, id: u32, dx: i64, dy: i64) -> Point
         requires known { IsTrue (knows id self.old.props.scrollers) }
-        requires left { neg_ℤ (pos (2 ^ 39)) <ℤ dx }
-        requires right { dx <ℤ pos (2 ^ 39) }
-        requires up { neg_ℤ (pos (2 ^ 39)) <ℤ dy }
-        requires down { dy <ℤ pos (2 ^ 39) }
+        requires left { neg_ℤ (pos (2 ^ 58)) <ℤ dx }
+        requires right { dx <ℤ pos (2 ^ 58) }
+        requires up { neg_ℤ (pos (2 ^ 58)) <ℤ dy }
+        requires down { dy <ℤ pos (2 ^ 58) }
         ensures tree { self.new ≡ scrolled_by self.old id dx dy }
         ensures change { result ≡ minus (main_point self.new id) (main_point self.old id) }
     {

@@ -3,7 +3,7 @@ use Rattle.std.specs.Prelude.{◌≡◌, ◌⊎◌, ℕ, ◌<◌, ◌++◌, Some
 use mathlib.Core.List.{IsPrefix}
 use Rattle.thread_lock.specs.Lists.{entries_by, gained}
 use Rattle.model_history.specs.declared.event.Event.{Event}
-use Rattle.model_history.specs.Accepted.{IsAccepted}
+use Rattle.model_history.specs.Accepted.{IsPlayable}
 use Rattle.model_history.specs.Legal.{Legal}
 use Rattle.impl_log.specs.Runs.{Run, past, with_entry}
 use Rattle.impl_core.specs.Origins.{origin_of}
@@ -19,7 +19,7 @@ pub record Sees (p : Seat) (r : Run) : Type 0 where
   pub own : entries_by p.actor (pairs r.entries) ≡ p.mine
   pub origin : p.stem ≡ Some (origin_of r)
   pub legal : Legal r.script r.workers (past r)
-  pub accepted : IsAccepted r.script
+  pub playable : IsPlayable r.script
 
 -- the pass took the turn, and found this run
 pub record Finds (p e : Seat) (r : Run) : Type 0 where

@@ -5,7 +5,7 @@ use Rattle.page_layers.specs.declared.moves.Move.{Move}
 use Rattle.model_history.specs.declared.event.Event.{Event}
 use Rattle.model_history.specs.declared.event.Event.TheVariants as event
 use Rattle.model_history.specs.Frames.{pulls_in, pulls_of}
-use Rattle.model_history.specs.Accepted.{IsAccepted}
+use Rattle.model_history.specs.Accepted.{IsPlayable}
 use Rattle.model_history.specs.Scans.{has_ended}
 use Rattle.impl_log.specs.Runs.{Run, past, now, with_entry}
 use Rattle.impl_core.specs.Replies.{told_frame}
@@ -44,7 +44,7 @@ pub record IsSentTo (p : Seat) (host : MainHostModel) (ms : List Move) : Type 0 
   pub stands : HasSeenRun p run
   pub actor : p.actor ≡ 1
   pub going : has_ended (past run) ≡ false
-  pub accepted : IsAccepted run.script
+  pub playable : IsPlayable run.script
   pub frame : ℕ
   pub told : told_frame run ≡ Some (frame, ms)
   pub changed : Bool

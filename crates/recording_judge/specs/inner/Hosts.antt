@@ -3,7 +3,7 @@ use Rattle.std.specs.Prelude.{◌≡◌, ℕ, true, List, ◌∷◌, Option}
 use Rattle.page_layers.specs.declared.moves.Move.{Move}
 use Rattle.model_history.specs.declared.history.Entry.{Entry}
 use Rattle.model_history.specs.Scripts.{ScriptModel}
-use Rattle.model_history.specs.Accepted.{IsAccepted}
+use Rattle.model_history.specs.Accepted.{IsPlayable}
 use Rattle.model_history.specs.EventFields as fields
 use Rattle.model_history.specs.Frames.{pulls_of}
 use Rattle.model_history.specs.Legal.{Legal}
@@ -19,7 +19,7 @@ pub record HostMoves (host : ImplHostModel) (ms : List Move) : Type 0 where
   pub workers : ℕ
   pub past : List Entry
   pub entry : Entry
-  pub accepted : IsAccepted script
+  pub playable : IsPlayable script
   pub legal : Legal script workers (entry ∷ past)
   pub scroll : uses_scroll entry.event ≡ true
   pub moves : fields.moves script entry.event ≡ ms
@@ -32,7 +32,7 @@ pub record HostAborts (host : ImplHostModel) : Type 0 where
   pub past : List Entry
   pub actor : ℕ
   pub frame : ℕ
-  pub accepted : IsAccepted script
+  pub playable : IsPlayable script
   pub legal : Legal script workers (abort actor frame ∷ past)
   pub hosts : Hosts script past host
 
@@ -41,7 +41,7 @@ pub record HostCommits (s : ScriptModel) (host : ImplHostModel) (k : ℕ) (end :
   pub workers : ℕ
   pub past : List Entry
   pub actor : ℕ
-  pub accepted : IsAccepted s
+  pub playable : IsPlayable s
   pub legal : Legal s workers (commit actor k ∷ past)
   pub hosts : Hosts s past host
   pub commit : IsCommitted s (pulls_of past) k end
@@ -53,6 +53,6 @@ pub record HostActivates (host : ImplHostModel) (ms : List Move) : Type 0 where
   pub past : List Entry
   pub actor : ℕ
   pub frame : ℕ
-  pub accepted : IsAccepted script
+  pub playable : IsPlayable script
   pub legal : Legal script workers (activate actor frame ms ∷ past)
   pub hosts : Hosts script past host

@@ -6,7 +6,7 @@ use Rattle.model_history.specs.declared.event.Event.{Event}
 use Rattle.model_history.specs.declared.event.Event.TheVariants as event
 use Rattle.model_history.specs.declared.history.Entry.{Entry}
 use Rattle.model_history.specs.Scripts.{ScriptModel}
-use Rattle.model_history.specs.Accepted.{IsAccepted}
+use Rattle.model_history.specs.Accepted.{IsPlayable}
 use Rattle.model_history.specs.Commits.{CommitModel}
 use Rattle.model_history.specs.EventFields.{sends}
 use Rattle.model_history.specs.Scans.{counted, newest}
@@ -81,6 +81,6 @@ pub record MainSends (side : JudgedMain) (ms : List Move) : Type 0 where
   pub past : List Entry
   pub actor : ℕ
   pub frame : ℕ
-  pub accepted : IsAccepted script
+  pub playable : IsPlayable script
   pub legal : Legal script workers (send actor frame ms ∷ past)
   pub main : IsMain script past side

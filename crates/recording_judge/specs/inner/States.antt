@@ -7,7 +7,7 @@ use Rattle.model_history.specs.declared.event.Event.{Event}
 use Rattle.model_history.specs.declared.event.Event.TheVariants as event
 use Rattle.model_history.specs.declared.history.Entry.{Entry}
 use Rattle.model_history.specs.Scripts.{ScriptModel}
-use Rattle.model_history.specs.Accepted.{IsAccepted}
+use Rattle.model_history.specs.Accepted.{IsPlayable}
 use Rattle.model_history.specs.EventFields.{kind_of, actor_of}
 use Rattle.model_history.specs.Ranking.{rank_to_start}
 use Rattle.model_history.specs.Legal.{Legal}
@@ -38,7 +38,7 @@ entry a e = record { actor = a; event = e }
 -- the parts of the state are those of its run, and this entry may come next
 pub record MayStep (st : State) (a : ℕ) (e : Event) : Type 0 where
   pub state : IsState st
-  pub accepted : IsAccepted st.log.script
+  pub playable : IsPlayable st.log.script
   pub legal : Legal st.log.script st.log.workers (entry a e ∷ past st.log)
 
 -- the parts were stepped by the entry, which is not entered yet

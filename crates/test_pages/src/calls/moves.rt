@@ -7,7 +7,7 @@ use page_layers::Move;
 use test_table::{LineFault, numbers, whole};
 
 /// Both parts of a pull lie below this bound in absolute value.
-const PULL_BOUND: i64 = 549755813888;
+const PULL_BOUND: i64 = 288230376151711744;
 
 /// Whether a part of a pull is within its bound.
 fn is_bounded(part: i64) -> bool

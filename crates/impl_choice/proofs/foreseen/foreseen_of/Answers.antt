@@ -30,7 +30,7 @@ returns-clause-once c =
     let beside = beside_visible s a p m.store _ _ shown needed _ _ c.as_slice-2.ensures c.in_ok-left.ensures in
     subst (λ (rs : List Rank). EachKeyOnce rs c.in_ok-hidden.hidden.items) (sym wanted)
     (subst (λ (ts : List Tile). EachKeyOnce (filter_map (rank_in_both s a p) (first_keys s a m.store (visible_in a) (visible_in p))) ts) (sym hidden)
-    (once_at s c.is_accepted.ensures.accepted n.past m.store m.pinned c.as_slice-2.result.now beside))
+    (once_at s c.is_accepted.ensures.playable n.past m.store m.pinned c.as_slice-2.result.now beside))
 
 pub returns-clause-shown : goal.returns-clause-shown
 returns-clause-shown c =
@@ -42,7 +42,7 @@ returns-clause-shown c =
     let shown = c.in_ok-shown.ensures a n.seen_active in
     let needed = c.in_ok-needed.ensures p n.seen_pending in
     let wanted = ranks_of_visible s a p m.store _ _ shown needed _ _ (c.as_slice.ensures ∙ c.in_ok-first.ensures a n.seen_active) (c.in_ok-wanted.ensures a p n.seen_active n.seen_pending) in
-    subst (λ (rs : List Rank). (r : Rank) → In r rs → is_visible_rank (Some r) ≡ true) (sym wanted) (shown_at s c.is_accepted.ensures.accepted n.past m.store)
+    subst (λ (rs : List Rank). (r : Rank) → In r rs → is_visible_rank (Some r) ≡ true) (sym wanted) (shown_at s c.is_accepted.ensures.playable n.past m.store)
 
 pub returns-clause-visible : goal.returns-clause-visible
 returns-clause-visible c = λ s workers h is legal holds seen_active seen_pending.
@@ -61,5 +61,5 @@ returns-clause-visible c = λ s workers h is legal holds seen_active seen_pendin
     let beside = beside_visible s a p m.store _ _ shown needed _ _ c.as_slice-2.ensures c.in_ok-left.ensures in
     subst (λ (rs : List Rank). AreVisibleAt s h rs c.in_ok-hidden.hidden.items) (sym wanted)
     (subst (λ (ts : List Tile). AreVisibleAt s h (filter_map (rank_in_both s a p) (first_keys s a m.store (visible_in a) (visible_in p))) ts) (sym hidden)
-    (visible_at s c.is_accepted.ensures.accepted h workers legal m holds c.as_slice-2.result.now beside)))
+    (visible_at s c.is_accepted.ensures.playable h workers legal m holds c.as_slice-2.result.now beside)))
     legal holds seen_active seen_pending

@@ -21,7 +21,7 @@ returns-clause-members c =
     (λ v e a p left right.
     let all : v.items ≡ ranks_both s o w = e ∙ ap (λ (rs : List Rank). rs ++ filter_map (alone s o) (ranks_where s side.Pending w)) first in
     subst (λ (rs : List Rank). SameMembers rs (filter_map (rank_in_both s a p) (keys_of a ++ keys_of p))) (sym all)
-    (ranked_members s c.is_accepted.ensures.accepted a p o w left right c.is_page_where.ensures c.is_page_where-2.ensures))
+    (ranked_members s c.is_accepted.ensures.playable a p o w left right c.is_page_where.ensures c.is_page_where-2.ensures))
     c.with_alone.ensures
 
 pub returns-clause-once : goal.returns-clause-once
@@ -34,5 +34,5 @@ returns-clause-once c =
     (λ v e a p left right.
     let all : v.items ≡ ranks_both s o w = e ∙ ap (λ (rs : List Rank). rs ++ filter_map (alone s o) (ranks_where s side.Pending w)) first in
     subst (λ (rs : List Rank). AreDistinctKeys (map (λ (r : Rank). r.key) rs)) (sym all)
-    (ranked_once s c.is_accepted.ensures.accepted a p o w left right c.is_page_where.ensures c.is_page_where-2.ensures))
+    (ranked_once s c.is_accepted.ensures.playable a p o w left right c.is_page_where.ensures c.is_page_where-2.ensures))
     c.with_alone.ensures

@@ -19,5 +19,5 @@ returns c = λ a p left right.
     let s = c.args.script.now in
     let q = c.args.key in
     let e = (λ i. least (c.rank_where-in_active.ensures i) (c.rank_where-in_pending.ensures i))
-    ∙ both_is s c.is_accepted.ensures.accepted a p (option_copied c.args.active) (option_copied c.args.pending) left right c.is_page_where.ensures c.is_page_where-2.ensures q in
+    ∙ both_is s c.is_accepted.ensures.playable a p (option_copied c.args.active) (option_copied c.args.pending) left right c.is_page_where.ensures c.is_page_where-2.ensures q in
     c.ready_tile.ensures ∙ (λ i. record { key = q; rank = e i; pinned = c.args.pinned })

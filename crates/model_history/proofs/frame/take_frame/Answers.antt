@@ -21,7 +21,7 @@ unreachable-requires c =
     ap (λ (ms : List Move). page_after_pulls ms (page s before.0 k)) before.1 ∙ ap (λ (q : Page). page_after_pulls c.args.pulls.now q) (sym before.2) in
     let Q : Page → Type 0 = λ q. TakesAll q (commands_of s k) in
     let R : List Command → Type 0 = λ cs. TakesAll p cs in
-    let taken : TakesAll p c.commands-own.result.now = subst R (sym c.commands-own.ensures) (subst Q same (takes_frame s c.is_accepted.ensures.accepted before.0 k)) in
+    let taken : TakesAll p c.commands-own.result.now = subst R (sym c.commands-own.ensures) (subst Q same (takes_frame s c.is_accepted.ensures.playable before.0 k)) in
     let P : EditError → Type 0 = λ e. TookCommands p c.commands-own.result.now c.apply_frame.new.tree (Err e) in
     let refused = subst P c.in-Err-Refused.field-0-is c.in-Err-Refused.ensures in
     commands_taken p c.commands-own.result.now refused.0 c.in-Err-Refused.field-0-0 taken refused.1

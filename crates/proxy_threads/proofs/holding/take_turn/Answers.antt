@@ -25,6 +25,6 @@ returns g c =
         own = ap (λ (a : ℕ). entries_by a (pairs c.take-core.result.0.entries)) (sym (ap (λ (z : Seat). z.actor) entered)) ∙ (c.take-core.ensures.mine ∙ ap (λ (z : Seat). z.mine) entered);
         origin = sym (ap (λ (z : Seat). z.stem) entered) ∙ c.take-core.ensures.stem;
         legal = c.is_legal.ensures.legal;
-        accepted = c.is_legal.ensures.accepted;
+        playable = c.is_legal.ensures.playable;
       };
     }

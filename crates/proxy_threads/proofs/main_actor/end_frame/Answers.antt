@@ -12,7 +12,7 @@ begin-requires-clause-left g c =
 pub begin-requires-clause-bounded : goal.begin-requires-clause-bounded
 begin-requires-clause-bounded g c =
     let s = c.requires.sent in
-    told_bounded s.run (record { host = c.args.host.now; end = None; changed = s.changed }) s.stands.legal s.main refl s.frame c.args.pulls.now (sym s.told) s.accepted
+    told_bounded s.run (record { host = c.args.host.now; end = None; changed = s.changed }) s.stands.legal s.main refl s.frame c.args.pulls.now (sym s.told) s.playable
 
 pub finish-requires-clause-held : goal.finish-requires-clause-held
 finish-requires-clause-held g c = (c.begin.new.self, held_by c.args.pass c.args.host.now c.begin.new.self c.args.pulls.now c.in-Ok.end c.requires.sent c.in-Ok.ensures.0 c.in-Ok.ensures.1)

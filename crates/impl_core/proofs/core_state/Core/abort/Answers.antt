@@ -24,7 +24,7 @@ aborted-requires c =
     let k : ℕ = c.args.frame in
     let may_come : now r kind.Abort 1 ≡ Some (event.Abort k) = subst (λ (z : Run). now z kind.Abort 1 ≡ Some (event.Abort k)) (sym c.self.view_is) c.requires in
     let next : Legal r.script r.workers (abort 1 k ∷ h) = comes_next r.script r.workers h 1 (event.Abort k) legal may_come refl (omega arith) in
-    record { script = r.script; workers = r.workers; past = h; actor = 1; frame = k; accepted = c.is_legal.ensures.accepted; legal = next; stands = stands; pages = pages }
+    record { script = r.script; workers = r.workers; past = h; actor = 1; frame = k; playable = c.is_legal.ensures.playable; legal = next; stands = stands; pages = pages }
 
 pub abort_in_place-requires-clause-stands : goal.abort_in_place-requires-clause-stands
 abort_in_place-requires-clause-stands c =

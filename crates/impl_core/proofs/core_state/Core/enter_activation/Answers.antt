@@ -58,7 +58,7 @@ invariant_of-self-2 c =
     subst (λ (z : Run). AreForActivation z.script (past z) c.in_ok-next.next.pins c.in_ok-next.next.dead) (sym c.self.view_is) c.in_ok-next.ensures in
     let hosts : Hosts r.script (activate 0 k ms ∷ h) c.activate.new.self = c.activate.ensures r.script r.workers h 0 k ms activation.legal c.self.invariant.host stands in
     let holds : Manages r.script (activate 0 k ms ∷ h) c.activate-2.new.self =
-    c.activate-2.ensures r.script r.workers h 0 k ms c.is_legal.ensures.accepted activation.legal c.self.invariant.tiles brings.pins (ready_dead r.script h c.in_ok-next.next.pins c.in_ok-next.next.dead brings) in
+    c.activate-2.ensures r.script r.workers h 0 k ms c.is_legal.ensures.playable activation.legal c.self.invariant.tiles brings.pins (ready_dead r.script h c.in_ok-next.next.pins c.in_ok-next.next.dead brings) in
     one_more (record { host = c.activate.new.self; tiles = c.activate-2.new.self; told = c.self.inside.told; prepared = c.self.inside.prepared; required = c.forget.new.self; drawn = drawn.Nothing }) r c.enter.new.self 0 (event.Activate k ms) c.in_ok-enter.ensures.ok
     (activate_core r.script h (record { host = c.self.inside.host; tiles = c.self.inside.tiles; told = c.self.inside.told; prepared = c.self.inside.prepared; required = c.self.inside.required; drawn = c.self.inside.drawn }) c.self.invariant
     c.activate.new.self c.activate-2.new.self c.forget.new.self drawn.Nothing k ms hosts holds (forgotten c.forget.new.self (required r.script (entry 0 (event.Activate k ms) ∷ h)) (ready r.script (entry 0 (event.Activate k ms) ∷ h)) c.forget.ensures) tt)

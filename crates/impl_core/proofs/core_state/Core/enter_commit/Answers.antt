@@ -4,7 +4,7 @@ use Rattle.model_states.specs.declared.kind.Kind.TheVariants as kind
 use Rattle.model_history.specs.declared.event.Event.TheVariants as event
 use Rattle.model_history.specs.declared.history.Entry.{Entry}
 use Rattle.model_history.specs.Scripts.{ScriptModel}
-use Rattle.model_history.specs.Accepted.{IsAccepted}
+use Rattle.model_history.specs.Accepted.{IsPlayable}
 use Rattle.model_history.specs.Frames.{pulls_of}
 use Rattle.model_history.specs.Legal.{Legal}
 use Rattle.model_history.specs.Tiles.{ready, required}
@@ -29,10 +29,10 @@ push_prepared-requires c =
     let k : ℕ = c.args.frame in
     let kept : Kept = record { host = c.self.inside.host; tiles = c.self.inside.tiles; told = c.self.inside.told; prepared = c.self.inside.prepared; required = c.self.inside.required; drawn = c.self.inside.drawn } in
     let may_come : now r kind.Commit 0 ≡ Some (event.Commit k) = subst (λ (z : Run). now z kind.Commit 0 ≡ Some (event.Commit k)) (sym c.self.view_is) c.requires in
-    let is : OfCommit r.script r.workers h k kept = of_commit r.script r.workers h k kept c.is_legal.ensures.accepted c.is_legal.ensures.legal c.self.invariant may_come in
+    let is : OfCommit r.script r.workers h k kept = of_commit r.script r.workers h k kept c.is_legal.ensures.playable c.is_legal.ensures.legal c.self.invariant may_come in
     let same : c.deref.result.now ≡ r.script = c.deref.ensures ∙ c.script.ensures in
     subst (λ (z : ScriptModel). PushesNow z kept.host k kept.prepared) (sym same)
-    (record { workers = r.workers; past = h; actor = 0; accepted = c.is_legal.ensures.accepted; legal = is.legal; hosts = c.self.invariant.host; is_prepared = is.is_prepared })
+    (record { workers = r.workers; past = h; actor = 0; playable = c.is_legal.ensures.playable; legal = is.legal; hosts = c.self.invariant.host; is_prepared = is.is_prepared })
 
 pub enter-requires-clause-is_now : goal.enter-requires-clause-is_now
 enter-requires-clause-is_now c = subst (λ (z : Run). now z kind.Commit 0 ≡ Some (event.Commit c.args.frame)) (sym c.self.view_is) c.requires
@@ -44,11 +44,11 @@ invariant_of-self-in-Ok-1 c =
     let k : ℕ = c.args.frame in
     let kept : Kept = record { host = c.self.inside.host; tiles = c.self.inside.tiles; told = c.self.inside.told; prepared = c.self.inside.prepared; required = c.self.inside.required; drawn = c.self.inside.drawn } in
     let may_come : now r kind.Commit 0 ≡ Some (event.Commit k) = subst (λ (z : Run). now z kind.Commit 0 ≡ Some (event.Commit k)) (sym c.self.view_is) c.requires in
-    let is : OfCommit r.script r.workers h k kept = of_commit r.script r.workers h k kept c.is_legal.ensures.accepted c.is_legal.ensures.legal c.self.invariant may_come in
+    let is : OfCommit r.script r.workers h k kept = of_commit r.script r.workers h k kept c.is_legal.ensures.playable c.is_legal.ensures.legal c.self.invariant may_come in
     let same : c.deref.result.now ≡ r.script = c.deref.ensures ∙ c.script.ensures in
     let pushed : Hosts r.script (commit 0 k ∷ h) c.push_prepared.new.host =
-    subst (λ (z : ScriptModel). (workers : ℕ) (past : List Entry) (actor : ℕ) → IsAccepted z → Legal z workers (commit actor k ∷ past) → Hosts z past kept.host → IsPrepared z (pulls_of past) k kept.prepared → Hosts z (commit actor k ∷ past) c.push_prepared.new.host)
-    same c.in_ok-before.ensures.hosts r.workers h 0 c.is_legal.ensures.accepted is.legal c.self.invariant.host is.is_prepared in
+    subst (λ (z : ScriptModel). (workers : ℕ) (past : List Entry) (actor : ℕ) → IsPlayable z → Legal z workers (commit actor k ∷ past) → Hosts z past kept.host → IsPrepared z (pulls_of past) k kept.prepared → Hosts z (commit actor k ∷ past) c.push_prepared.new.host)
+    same c.in_ok-before.ensures.hosts r.workers h 0 c.is_legal.ensures.playable is.legal c.self.invariant.host is.is_prepared in
     let holds : Manages r.script (commit 0 k ∷ h) c.forget.new.self = c.forget.ensures r.script h (commit 0 k ∷ h) c.self.invariant.tiles is.same in
     one_more (record { host = c.push_prepared.new.host; tiles = c.forget.new.self; told = kept.told; prepared = c.drop_prepared.new.prepared; required = c.forget-in-Ok.new.self; drawn = drawn.Nothing }) r c.enter.new.self 0 (event.Commit k) c.in-Ok.ensures.ok
     (commit_core r.script h kept c.self.invariant c.push_prepared.new.host c.forget.new.self c.forget-in-Ok.new.self drawn.Nothing c.drop_prepared.new.prepared k pushed holds (forgotten c.forget-in-Ok.new.self (required r.script (entry 0 (event.Commit k) ∷ h)) (ready r.script (entry 0 (event.Commit k) ∷ h)) c.forget-in-Ok.ensures) tt)
@@ -60,7 +60,7 @@ invariant_of-self-in-Err c =
     let k : ℕ = c.args.frame in
     let kept : Kept = record { host = c.self.inside.host; tiles = c.self.inside.tiles; told = c.self.inside.told; prepared = c.self.inside.prepared; required = c.self.inside.required; drawn = c.self.inside.drawn } in
     let may_come : now r kind.Commit 0 ≡ Some (event.Commit k) = subst (λ (z : Run). now z kind.Commit 0 ≡ Some (event.Commit k)) (sym c.self.view_is) c.requires in
-    let is : OfCommit r.script r.workers h k kept = of_commit r.script r.workers h k kept c.is_legal.ensures.accepted c.is_legal.ensures.legal c.self.invariant may_come in
+    let is : OfCommit r.script r.workers h k kept = of_commit r.script r.workers h k kept c.is_legal.ensures.playable c.is_legal.ensures.legal c.self.invariant may_come in
     let before : Hosts r.script h c.take_back.new.self = c.take_back.ensures r.script h kept.host is.none c.self.invariant.host c.in_ok-before.ensures.active c.in_ok-before.ensures.before in
     refused (record { host = c.take_back.new.self; tiles = kept.tiles; told = kept.told; prepared = kept.prepared; required = kept.required; drawn = kept.drawn }) r c.enter.new.self c.in-Err.ensures.err
     (record { host = before; tiles = c.self.invariant.tiles; told = c.self.invariant.told; prepared = c.self.invariant.prepared; required = c.self.invariant.required; drawn = c.self.invariant.drawn })

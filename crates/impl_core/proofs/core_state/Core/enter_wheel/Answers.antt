@@ -29,7 +29,7 @@ wheel-requires c =
     let stands = subst (λ (st : StandingModel). StandsForPast r.script h st) (sym c.standing.ensures) c.self.invariant.host.standing in
     let pages = c.pages-pages.ensures r.script h c.self.invariant.host in
     let asked = subst (λ (z : Run). input_now z.script (past z) ≡ Some (input.Wheel c.args.x c.args.y c.args.dx c.args.dy)) (sym c.self.view_is) c.requires.asked in
-    record { script = r.script; workers = r.workers; past = h; accepted = c.is_legal.ensures.accepted; legal = c.is_legal.ensures.legal; stands = stands; page = pages.active; input = simp (to_z-of_z, c.ranges.dx, c.ranges.dy) asked }
+    record { script = r.script; workers = r.workers; past = h; playable = c.is_legal.ensures.playable; legal = c.is_legal.ensures.legal; stands = stands; page = pages.active; input = simp (to_z-of_z, c.ranges.dx, c.ranges.dy) asked }
 
 pub moved-requires : goal.moved-requires
 moved-requires c =
@@ -53,7 +53,7 @@ moved-requires c =
       workers = r.workers;
       past = h;
       entry = entry 0 (event.Wheel i layer rest_x rest_y ms);
-      accepted = c.is_legal.ensures.accepted;
+      playable = c.is_legal.ensures.playable;
       legal = of.legal;
       stands = subst (λ (st : StandingModel). StandsForPast r.script h st) (sym c.standing-2.ensures) c.self.invariant.host.standing;
       pages = pages;

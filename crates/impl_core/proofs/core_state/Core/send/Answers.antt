@@ -20,7 +20,7 @@ unheard-requires c =
       script = r.script;
       workers = r.workers;
       past = past r;
-      accepted = c.is_legal.ensures.accepted;
+      playable = c.is_legal.ensures.playable;
       legal = c.is_legal.ensures.legal;
       stands = subst (λ (st : StandingModel). StandsForPast r.script (past r) st) (sym c.standing.ensures) c.self.invariant.host.standing;
     }
@@ -51,7 +51,7 @@ sent-requires c =
       actor = 0;
       frame = k;
       pulls = ms;
-      accepted = c.is_legal.ensures.accepted;
+      playable = c.is_legal.ensures.playable;
       legal = comes_next r.script r.workers (past r) 0 (event.Send k ms) c.is_legal.ensures.legal may_come refl (omega arith);
       hosts = c.self.invariant.host;
     }

@@ -23,7 +23,7 @@ pub push-requires-clause-follows : goal.push-requires-clause-follows
 push-requires-clause-follows c =
     let r = c.requires in
     subst (λ t. MayFollow t c.args.tree.value c.args.changes) (sym (ap (λ (m : ImplHostModel). m.trees.active) c.self.view_is))
-    (may_follow r.script r.workers r.past r.actor c.args.frame r.legal c.args.self.now.trees.active r.hosts.active c.args.tree.value c.args.changes c.args.commands.now r.made r.accepted)
+    (may_follow r.script r.workers r.past r.actor c.args.frame r.legal c.args.self.now.trees.active r.hosts.active c.args.tree.value c.args.changes c.args.commands.now r.made r.playable)
 
 pub returns-in-Ok-clause-hosts : goal.returns-in-Ok-clause-hosts
 returns-in-Ok-clause-hosts c = λ s workers h actor accepted legal hosts made.

@@ -3,7 +3,7 @@ use Rattle.std.proofs.lemmas.List.{length-reverse}
 use Rattle.model_history.specs.declared.history.Entry.{Entry}
 use Rattle.model_history.specs.EventFields.{kind_of, uses}
 use Rattle.model_history.specs.Legal.{Next}
-use Rattle.model_history.specs.Accepted.{IsAccepted}
+use Rattle.model_history.specs.Accepted.{IsPlayable}
 use Rattle.model_history.proofs.DueFacts.{entry}
 use Rattle.impl_log.specs.Runs.{Run, now}
 use Rattle.impl_log.specs.Kept.{forgettable}
@@ -21,7 +21,7 @@ add-requires-clause-step c =
     let e = c.args.event in
     let x : Next s n h (entry a e) =
     next_is s n h a e (ap (λ (r : Run). now r (kind_of e) a) c.self.view_is ∙ c.requires.is_now) c.requires.actor (subst (λ (r : Run). a < 2 + r.workers) (sym c.self.view_is) c.requires.within) in
-    may_step s n h c.self.inside.progress c.self.inside.history.spare c.self.inside.places c.self.inside.history.first (subst IsAccepted c.deref.ensures c.is_accepted.ensures.accepted) c.self.invariant a e x
+    may_step s n h c.self.inside.progress c.self.inside.history.spare c.self.inside.places c.self.inside.history.first (subst IsPlayable c.deref.ensures c.is_accepted.ensures.playable) c.self.invariant a e x
 
 pub invariant_of-self : goal.invariant_of-self
 invariant_of-self c =
@@ -45,5 +45,5 @@ invariant_of-self-2 c =
     let there : c.add.new.places ≡ placed (uses e) (length h) c.self.inside.places = c.add.ensures.places ∙ ap (λ (k : ℕ). placed (uses e) k c.self.inside.places) long in
     subst (λ (g : List Entry). IsLogOf s n g c.add.new.progress left c.add.new.places c.add.new.history.first)
     (sym (past_more es c.add.new.history.entries (entry a e) (c.add.ensures.entries ∙ ap (λ (xs : List Entry). xs ++ entry a e ∷ []) c.in_ok-reserve.ensures.entries)))
-    (entered s n h c.self.inside.progress c.self.inside.history.spare c.self.inside.places c.self.inside.history.first (subst IsAccepted c.deref.ensures c.is_accepted.ensures.accepted) c.self.invariant a e x
+    (entered s n h c.self.inside.progress c.self.inside.history.spare c.self.inside.places c.self.inside.history.first (subst IsPlayable c.deref.ensures c.is_accepted.ensures.playable) c.self.invariant a e x
     c.add.new.progress left c.add.new.places c.add.new.history.first c.add.ensures.progress there (c.add.ensures.first ∙ c.in_ok-reserve.ensures.first) room)

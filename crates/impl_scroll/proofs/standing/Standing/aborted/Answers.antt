@@ -10,7 +10,7 @@ use Rattle.impl_scroll.proofs.standing.Standing.aborted.Goals as goal
 pub abort-requires : goal.abort-requires
 abort-requires c =
     let r = c.requires in
-    bounded r.script r.workers r.past c.in_ok-rows.rows r.accepted r.legal.0 (copied_values r.script r.past _ _ c.in_ok-rows.rows c.self.view_is c.in_ok-rows.ensures r.stands)
+    bounded r.script r.workers r.past c.in_ok-rows.rows r.playable r.legal.0 (copied_values r.script r.past _ _ c.in_ok-rows.rows c.self.view_is c.in_ok-rows.ensures r.stands)
 
 pub standing_in-requires : goal.standing_in-requires
 standing_in-requires c =
@@ -19,7 +19,7 @@ standing_in-requires c =
       script = r.script;
       workers = r.workers;
       past = abort r.actor r.frame ∷ r.past;
-      accepted = r.accepted;
+      playable = r.playable;
       legal = r.legal;
       rows = aborted_values r.script r.past r.actor r.frame c.in_ok-rows.rows c.abort.new.self (copied_values r.script r.past _ _ c.in_ok-rows.rows c.self.view_is c.in_ok-rows.ensures r.stands) c.abort.ensures;
       pages = aborted_pages r.script r.past r.actor r.frame c.args.pages r.pages;

@@ -12,13 +12,13 @@ use Rattle.impl_scroll.proofs.standing.Standing.accepted.Goals as goal
 pub accepted-requires-clause-bounded : goal.accepted-requires-clause-bounded
 accepted-requires-clause-bounded c =
     let r = c.requires in
-    bounded r.script r.workers r.past c.self.inside.rows r.accepted r.legal (subst (StandsForPast r.script r.past) (sym c.self.view_is) r.stands).rows
+    bounded r.script r.workers r.past c.self.inside.rows r.playable r.legal (subst (StandsForPast r.script r.past) (sym c.self.view_is) r.stands).rows
 
 pub accepted-requires-clause-in_range : goal.accepted-requires-clause-in_range
 accepted-requires-clause-in_range c =
     let r = c.requires in
     active_in_range r.script r.workers r.past c.self.inside.rows r.legal (subst (StandsForPast r.script r.past) (sym c.self.view_is) r.stands).rows
-    (Some c.in-Some.page.now) r.accepted (sym (ap option_copied c.in-Some.is) ∙ r.page)
+    (Some c.in-Some.page.now) r.playable (sym (ap option_copied c.in-Some.is) ∙ r.page)
 
 pub returns-in-Some-clause-x : goal.returns-in-Some-clause-x
 returns-in-Some-clause-x c = λ s n h legal is e.

@@ -13,16 +13,16 @@ use Rattle.impl_scroll.proofs.standing.Standing.activated.Goals as goal
 pub activate-requires : goal.activate-requires
 activate-requires c =
     let r = c.requires in
-    bounded r.script r.workers r.past c.in_ok-rows.rows r.accepted r.legal.0 (copied_values r.script r.past _ _ c.in_ok-rows.rows c.self.view_is c.in_ok-rows.ensures r.stands)
+    bounded r.script r.workers r.past c.in_ok-rows.rows r.playable r.legal.0 (copied_values r.script r.past _ _ c.in_ok-rows.rows c.self.view_is c.in_ok-rows.ensures r.stands)
 
 pub add-requires-clause-bounded : goal.add-requires-clause-bounded
 add-requires-clause-bounded c = λ sc ax.
     let r = c.requires in
     subst IsBounded (sym (c.activate.ensures sc ax ∙ ap table.activated (copied_values r.script r.past _ _ c.in_ok-rows.rows c.self.view_is c.in_ok-rows.ensures r.stands sc ax)))
-    (activated_bounded r.script r.workers r.past sc ax r.accepted r.legal.0)
+    (activated_bounded r.script r.workers r.past sc ax r.playable r.legal.0)
 
 pub add-requires-clause-amounts : goal.add-requires-clause-amounts
-add-requires-clause-amounts c = let r = c.requires in moves_bounded r.script r.workers r.past (activate r.actor r.frame c.args.clamps.now) c.args.clamps.now r.accepted r.legal refl
+add-requires-clause-amounts c = let r = c.requires in moves_bounded r.script r.workers r.past (activate r.actor r.frame c.args.clamps.now) c.args.clamps.now r.playable r.legal refl
 
 pub standing_in-requires : goal.standing_in-requires
 standing_in-requires c =
@@ -31,7 +31,7 @@ standing_in-requires c =
       script = r.script;
       workers = r.workers;
       past = activate r.actor r.frame c.args.clamps.now ∷ r.past;
-      accepted = r.accepted;
+      playable = r.playable;
       legal = r.legal;
       rows = activated_values r.script r.past r.actor r.frame c.args.clamps.now c.in_ok-rows.rows c.activate.new.self c.add.new.self
           (copied_values r.script r.past _ _ c.in_ok-rows.rows c.self.view_is c.in_ok-rows.ensures r.stands) c.activate.ensures c.in_ok-add.ensures.ok;

@@ -8,7 +8,7 @@ use Rattle.impl_scroll.proofs.standing.Standing.clamps.Goals as goal
 pub clamps-requires : goal.clamps-requires
 clamps-requires c =
     let r = c.requires in
-    bounded r.script r.workers r.past c.self.inside.rows r.accepted r.legal (subst (StandsForPast r.script r.past) (sym c.self.view_is) r.stands).rows
+    bounded r.script r.workers r.past c.self.inside.rows r.playable r.legal (subst (StandsForPast r.script r.past) (sym c.self.view_is) r.stands).rows
 
 pub returns : goal.returns
 returns c =

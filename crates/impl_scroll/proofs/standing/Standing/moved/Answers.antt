@@ -9,10 +9,10 @@ use Rattle.impl_scroll.proofs.standing.Standing.moved.Goals as goal
 pub add-requires-clause-bounded : goal.add-requires-clause-bounded
 add-requires-clause-bounded c =
     let r = c.requires in
-    bounded r.script r.workers r.past c.in_ok-rows.rows r.accepted r.legal.0 (copied_values r.script r.past _ _ c.in_ok-rows.rows c.self.view_is c.in_ok-rows.ensures r.stands)
+    bounded r.script r.workers r.past c.in_ok-rows.rows r.playable r.legal.0 (copied_values r.script r.past _ _ c.in_ok-rows.rows c.self.view_is c.in_ok-rows.ensures r.stands)
 
 pub add-requires-clause-amounts : goal.add-requires-clause-amounts
-add-requires-clause-amounts c = let r = c.requires in moves_bounded r.script r.workers r.past r.entry c.args.moves.now r.accepted r.legal r.moves
+add-requires-clause-amounts c = let r = c.requires in moves_bounded r.script r.workers r.past r.entry c.args.moves.now r.playable r.legal r.moves
 
 pub standing_in-requires : goal.standing_in-requires
 standing_in-requires c =
@@ -21,7 +21,7 @@ standing_in-requires c =
       script = r.script;
       workers = r.workers;
       past = r.entry ∷ r.past;
-      accepted = r.accepted;
+      playable = r.playable;
       legal = r.legal;
       rows = moved_values r.script r.past r.entry c.args.moves.now c.in_ok-rows.rows c.add.new.self r.scroll r.moves (copied_values r.script r.past _ _ c.in_ok-rows.rows c.self.view_is c.in_ok-rows.ensures r.stands) c.in_ok-add.ensures.ok;
       pages = moved_pages r.script r.past r.entry c.args.pages r.scroll r.pages;

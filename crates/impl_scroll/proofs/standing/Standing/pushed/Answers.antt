@@ -10,7 +10,7 @@ use Rattle.impl_scroll.proofs.standing.Standing.pushed.Goals as goal
 pub push-requires-clause-bounded : goal.push-requires-clause-bounded
 push-requires-clause-bounded c =
     let r = c.requires in
-    bounded r.script r.workers r.past c.in_ok-rows.rows r.accepted r.legal.0 (copied_values r.script r.past _ _ c.in_ok-rows.rows c.self.view_is c.in_ok-rows.ensures r.stands)
+    bounded r.script r.workers r.past c.in_ok-rows.rows r.playable r.legal.0 (copied_values r.script r.past _ _ c.in_ok-rows.rows c.self.view_is c.in_ok-rows.ensures r.stands)
 
 pub push-requires-clause-none_pending : goal.push-requires-clause-none_pending
 push-requires-clause-none_pending c =
@@ -24,7 +24,7 @@ standing_in-requires c =
       script = r.script;
       workers = r.workers;
       past = commit r.actor r.frame ∷ r.past;
-      accepted = r.accepted;
+      playable = r.playable;
       legal = r.legal;
       rows = pushed_values r.script r.past r.actor r.frame c.args.page.now c.in_ok-rows.rows c.push.new.self r.page_is
           (copied_values r.script r.past _ _ c.in_ok-rows.rows c.self.view_is c.in_ok-rows.ensures r.stands) c.in_ok-push.ensures.ok;

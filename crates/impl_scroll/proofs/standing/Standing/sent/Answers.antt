@@ -8,7 +8,7 @@ use Rattle.impl_scroll.proofs.standing.Standing.sent.Goals as goal
 pub pull-requires-clause-bounded : goal.pull-requires-clause-bounded
 pull-requires-clause-bounded c =
     let r = c.requires in
-    bounded r.script r.workers r.past c.self.inside.rows r.accepted r.legal.0 (subst (StandsForPast r.script r.past) (sym c.self.view_is) r.stands).rows
+    bounded r.script r.workers r.past c.self.inside.rows r.playable r.legal.0 (subst (StandsForPast r.script r.past) (sym c.self.view_is) r.stands).rows
 
 pub pull-requires-clause-none_in_flight : goal.pull-requires-clause-none_in_flight
 pull-requires-clause-none_in_flight c =

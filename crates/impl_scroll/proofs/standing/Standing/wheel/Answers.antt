@@ -11,19 +11,19 @@ pub wheel_in-requires-clause-ranges : goal.wheel_in-requires-clause-ranges
 wheel_in-requires-clause-ranges c =
     let r = c.requires in
     ranges_there r.script r.past (record { rows = c.self.inside.rows; active = c.self.inside.active; pending = c.self.inside.pending }) c.in-Some.page.now
-    (subst (StandsForPast r.script r.past) (sym c.self.view_is) r.stands).active (sym (ap option_copied c.in-Some.is) ∙ r.page) r.workers r.accepted r.legal
+    (subst (StandsForPast r.script r.past) (sym c.self.view_is) r.stands).active (sym (ap option_copied c.in-Some.is) ∙ r.page) r.workers r.playable r.legal
 
 pub wheel_in-requires-clause-column : goal.wheel_in-requires-clause-column
-wheel_in-requires-clause-column c = let r = c.requires in (wheel_fits r.script r.past c.args.x c.args.y c.args.dx c.args.dy r.accepted r.input).column
+wheel_in-requires-clause-column c = let r = c.requires in (wheel_fits r.script r.past c.args.x c.args.y c.args.dx c.args.dy r.playable r.input).column
 
 pub wheel_in-requires-clause-row : goal.wheel_in-requires-clause-row
-wheel_in-requires-clause-row c = let r = c.requires in (wheel_fits r.script r.past c.args.x c.args.y c.args.dx c.args.dy r.accepted r.input).row
+wheel_in-requires-clause-row c = let r = c.requires in (wheel_fits r.script r.past c.args.x c.args.y c.args.dx c.args.dy r.playable r.input).row
 
 pub wheel_in-requires-clause-across : goal.wheel_in-requires-clause-across
-wheel_in-requires-clause-across c = let r = c.requires in simp (to_z-of_z, c.ranges.dx) (wheel_fits r.script r.past c.args.x c.args.y c.args.dx c.args.dy r.accepted r.input).across
+wheel_in-requires-clause-across c = let r = c.requires in simp (to_z-of_z, c.ranges.dx) (wheel_fits r.script r.past c.args.x c.args.y c.args.dx c.args.dy r.playable r.input).across
 
 pub wheel_in-requires-clause-down : goal.wheel_in-requires-clause-down
-wheel_in-requires-clause-down c = let r = c.requires in simp (to_z-of_z, c.ranges.dy) (wheel_fits r.script r.past c.args.x c.args.y c.args.dx c.args.dy r.accepted r.input).down
+wheel_in-requires-clause-down c = let r = c.requires in simp (to_z-of_z, c.ranges.dy) (wheel_fits r.script r.past c.args.x c.args.y c.args.dx c.args.dy r.playable r.input).down
 
 pub returns-in-None : goal.returns-in-None
 returns-in-None c = λ s n h is e.

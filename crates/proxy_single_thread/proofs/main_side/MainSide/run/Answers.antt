@@ -14,7 +14,7 @@ begin-requires-clause-left c =
 pub begin-requires-clause-bounded : goal.begin-requires-clause-bounded
 begin-requires-clause-bounded c =
     let none : c.args.self.now.end ≡ None = none_where c.args.self.now.end (sym c.is_some.ensures ∙ c.if-is_some.false) in
-    told_bounded c.args.core.now c.args.self.now c.is_legal.ensures.legal c.requires none c.in-Some.field-0-0 c.in-Some.pulls.now c.in-Some.ensures c.is_legal.ensures.accepted
+    told_bounded c.args.core.now c.args.self.now c.is_legal.ensures.legal c.requires none c.in-Some.field-0-0 c.in-Some.pulls.now c.in-Some.ensures c.is_legal.ensures.playable
 
 pub returns-in-None-clause-run : goal.returns-in-None-clause-run
 returns-in-None-clause-run c = λ t. absurd (not_both _ t (none_told c.args.core.now.script c.args.core.now.workers (past c.args.core.now) c.is_legal.ensures.legal c.in-None.ensures))

@@ -15,7 +15,7 @@ clamps-requires c =
       script = r.script;
       workers = r.workers;
       past = past r;
-      accepted = c.is_legal.ensures.accepted;
+      playable = c.is_legal.ensures.playable;
       legal = c.is_legal.ensures.legal;
       stands = subst (λ (st : StandingModel). StandsForPast r.script (past r) st) (sym c.standing.ensures) c.requires.state.host.standing;
     }
@@ -27,4 +27,4 @@ returns c =
     let pages = c.pages-pages.ensures r.script h c.requires.state.host in
     let page : c.in-Some.page.now ≡ pending_page r.script h = page_is r.script h c.in-Some.page.now (pending h) (sym (ap option_copied c.in-Some.is) ∙ pages.pending) in
     let stands = subst (λ (st : StandingModel). StandsForPast r.script h st) (sym c.standing.ensures) c.requires.state.host.standing in
-    weaken c.clamps.result (λ moves is. is r.script r.workers h c.is_legal.ensures.accepted c.is_legal.ensures.legal stands page pages.outright) c.clamps.ensures
+    weaken c.clamps.result (λ moves is. is r.script r.workers h c.is_legal.ensures.playable c.is_legal.ensures.legal stands page pages.outright) c.clamps.ensures

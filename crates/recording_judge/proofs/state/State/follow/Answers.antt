@@ -10,7 +10,7 @@ pub step-requires : goal.step-requires
 step-requires c =
     let r = c.args.self.now.log in
     let q = c.requires in
-    record { state = q.state; accepted = c.is_legal.ensures.accepted; legal = (c.is_legal.ensures.legal, next_is r.script r.workers (past r) c.args.actor c.args.event q.is_now q.actor q.within) }
+    record { state = q.state; playable = c.is_legal.ensures.playable; legal = (c.is_legal.ensures.legal, next_is r.script r.workers (past r) c.args.actor c.args.event q.is_now q.actor q.within) }
 
 pub enter-requires-clause-is_now : goal.enter-requires-clause-is_now
 enter-requires-clause-is_now c = subst (λ (z : Run). now z (kind_of c.args.event) c.args.actor ≡ Some c.args.event) (sym c.in_ok-step.ensures.log) c.requires.is_now

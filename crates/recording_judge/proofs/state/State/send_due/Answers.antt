@@ -13,7 +13,7 @@ unheard-requires c =
       script = r.script;
       workers = r.workers;
       past = past r;
-      accepted = c.is_legal.ensures.accepted;
+      playable = c.is_legal.ensures.playable;
       legal = c.is_legal.ensures.legal;
       stands = subst (λ (st : StandingModel). StandsForPast r.script (past r) st) (sym c.standing.ensures) c.requires.state.host.standing;
     }

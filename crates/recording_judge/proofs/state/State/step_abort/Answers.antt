@@ -13,7 +13,7 @@ use Rattle.recording_judge.proofs.state.State.step_abort.Goals as goal
 pub abort_host-requires : goal.abort_host-requires
 abort_host-requires c =
     let r = c.args.self.now.log in
-    record { script = r.script; workers = r.workers; past = past r; actor = c.args.actor; frame = c.args.frame; accepted = c.requires.accepted; legal = c.requires.legal; hosts = c.requires.state.host }
+    record { script = r.script; workers = r.workers; past = past r; actor = c.args.actor; frame = c.args.frame; playable = c.requires.playable; legal = c.requires.legal; hosts = c.requires.state.host }
 
 pub returns : goal.returns
 returns c =

@@ -16,13 +16,13 @@ pub activate_tiles-requires : goal.activate_tiles-requires
 activate_tiles-requires c =
     let r = c.args.self.now.log in
     subst (HostActivates c.args.self.now.host) (sym c.as_slice.ensures)
-    (record { script = r.script; workers = r.workers; past = past r; actor = c.args.actor; frame = c.args.frame; accepted = c.requires.accepted; legal = c.requires.legal; hosts = c.requires.state.host })
+    (record { script = r.script; workers = r.workers; past = past r; actor = c.args.actor; frame = c.args.frame; playable = c.requires.playable; legal = c.requires.legal; hosts = c.requires.state.host })
 
 pub activate_host-requires : goal.activate_host-requires
 activate_host-requires c =
     let r = c.args.self.now.log in
     subst (HostActivates c.args.self.now.host) (sym c.as_slice-2.ensures)
-    (record { script = r.script; workers = r.workers; past = past r; actor = c.args.actor; frame = c.args.frame; accepted = c.requires.accepted; legal = c.requires.legal; hosts = c.requires.state.host })
+    (record { script = r.script; workers = r.workers; past = past r; actor = c.args.actor; frame = c.args.frame; playable = c.requires.playable; legal = c.requires.legal; hosts = c.requires.state.host })
 
 pub returns : goal.returns
 returns c =
@@ -36,7 +36,7 @@ returns c =
     let legal_in : (l : List Move) → l ≡ ms → Legal s n (activate a k l ∷ h) = λ l e. subst (λ (z : List Move). Legal s n (activate a k z ∷ h)) (sym e) c.requires.legal in
     let tiles : Holds s n (activate a k ms ∷ h) c.activate_tiles.new.tiles =
     subst (λ (l : List Move). Holds s n (activate a k l ∷ h) c.activate_tiles.new.tiles) c.as_slice.ensures
-    (c.in_ok-activate_tiles.ensures s n h a k c.requires.accepted (legal_in c.as_slice.result.now c.as_slice.ensures) c.requires.state.host c.requires.state.tiles) in
+    (c.in_ok-activate_tiles.ensures s n h a k c.requires.playable (legal_in c.as_slice.result.now c.as_slice.ensures) c.requires.state.host c.requires.state.tiles) in
     on_ok c.activate_host.result
     (λ stands.
     record {

@@ -14,7 +14,7 @@ wheel-requires c =
     let stands = subst (λ (st : StandingModel). StandsForPast r.script h st) (sym c.standing.ensures) c.requires.state.host.standing in
     let pages = c.pages.ensures r.script h c.requires.state.host in
     let asked = c.requires.asked in
-    record { script = r.script; workers = r.workers; past = h; accepted = c.is_legal.ensures.accepted; legal = c.is_legal.ensures.legal; stands = stands; page = pages.active; input = simp (to_z-of_z, c.ranges.dx, c.ranges.dy) asked }
+    record { script = r.script; workers = r.workers; past = h; playable = c.is_legal.ensures.playable; legal = c.is_legal.ensures.legal; stands = stands; page = pages.active; input = simp (to_z-of_z, c.ranges.dx, c.ranges.dy) asked }
 
 pub returns : goal.returns
 returns c =
