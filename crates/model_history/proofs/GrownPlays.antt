@@ -13,7 +13,7 @@ use Rattle.model_history.specs.Growth.{with_input, with_main_frame, with_command
 use Rattle.model_history.proofs.BoolFacts.{and_both}
 use Rattle.model_history.proofs.GrownSteps.{one_longer, as_many}
 use Rattle.model_history.proofs.PageFacts.{takes_values, page_before_values}
-use Rattle.model_history.proofs.Rooms.{all_and_last, all_fit_still, last_taken, unpulled, one_frame_more}
+use Rattle.model_history.proofs.GrownScripts.{all_and_last, all_fit_still, last_taken, unpulled, one_frame_more}
 
 pub playable_input : (s : ScriptModel) (x : Input) → IsPlayable s → suc (length s.inputs) < 2 ^ 32 - 1 → input_in_range (length s.main) x ≡ true → IsPlayable (with_input s x)
 playable_input s x p few fits =

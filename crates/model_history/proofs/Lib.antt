@@ -28,7 +28,7 @@ pub mod Rests
 pub mod DueRows
 pub mod LockstepWords
 pub mod BarePages
-pub mod Rooms
+pub mod GrownScripts
 pub mod GrownPlays
 pub mod FindKeys
 pub mod ScriptPages

@@ -1,14 +1,5 @@
 //! What a script may say at most, as its format has it.
 
-/// The most main frames.
-pub(crate) const MOST_FRAMES: usize = 4096;
-
-/// The most inputs.
-pub(crate) const MOST_INPUTS: usize = 65536;
-
-/// The most draws among the inputs.
-pub(crate) const MOST_DRAWS: u32 = 4096;
-
 /// The greatest id of a scroller.
 pub(crate) const MOST_ID: u32 = 65535;
 

@@ -1,4 +1,4 @@
-use Rattle.model_history.proofs.Rooms.{accepted_input, accepted_main_frame, accepted_commands, short_commands}
+use Rattle.model_history.proofs.GrownScripts.{accepted_input, accepted_main_frame, accepted_commands, short_commands}
 use Rattle.model_history.proofs.laws_growth.grown_scripts_are_accepted.Goals as goal
 
 pub returns : goal.returns

@@ -1,5 +1,5 @@
 -- A script that grows stays in the format's ranges, and is accepted.
-use Rattle.std.proofs.Common.{◌≡◌, ℕ, zero, suc, ◌+◌, ◌<◌, ◌≤◌, nat_lt, nat_le, Bool, true, false, ◌&&◌, List, [], ◌∷◌, ◌++◌, length, slice_index_or, refl, sym, ◌∙◌, ap, subst, arith}
+use Rattle.std.proofs.Common.{◌≡◌, ℕ, zero, suc, ◌+◌, ◌≤◌, nat_lt, nat_le, Bool, true, false, ◌&&◌, List, [], ◌∷◌, ◌++◌, length, slice_index_or, refl, sym, ◌∙◌, ap, subst, arith}
 use Rattle.std.specs.List.{list_all}
 use Rattle.std.proofs.lemmas.Bool.Decides.{nat_tests}
 use Rattle.page_layers.specs.declared.command.Command.{Command}
@@ -10,12 +10,11 @@ use Rattle.model_history.specs.declared.input.Input.{Input}
 use Rattle.model_history.specs.declared.input.Input.TheVariants.{Scroll, Wheel, Draw, Await, Settle}
 use Rattle.model_history.specs.Scripts.{ScriptModel}
 use Rattle.model_history.specs.Frames.{blank, page, page_before, commands_of}
-use Rattle.model_history.specs.Ranges.{is_u32, input_in_range, draw_count, head_in_range, main_in_range, inputs_in_range, command_in_range, is_in_ranges, are_short}
+use Rattle.model_history.specs.Ranges.{is_u32, input_in_range, head_in_range, main_in_range, inputs_in_range, command_in_range, is_in_ranges, are_short}
 use Rattle.model_history.specs.Accepted.{TakesAll, TakesFrames, IsAccepted}
 use Rattle.model_history.specs.Growth.{with_input, with_main_frame, with_last, with_commands}
-use Rattle.model_history.specs.inner.Rooms.{draws_of, has_room}
 use Rattle.model_history.proofs.BoolFacts.{and_left, and_right, and_both}
-use Rattle.model_history.proofs.GrownSteps.{one_longer, as_many}
+use Rattle.model_history.proofs.GrownSteps.{as_many}
 use Rattle.model_history.proofs.PageFacts.{takes_values, page_before_values}
 
 -- ---- lists with one element more
@@ -32,65 +31,7 @@ pub all_and_last : {A : Type 0} (f : A → Bool) (xs : List A) (x : A) → list_
 all_and_last f [] x = and_true (f x)
 all_and_last f (y ∷ xs) x = ap (λ b. f y && b) (all_and_last f xs x) ∙ and_assoc (f y) (list_all f xs) (f x)
 
-draws_and_last : (xs : List Input) (x : Input) → draw_count (xs ++ x ∷ []) ≡ draw_count xs + draws_of x
-draws_and_last [] (Scroll scroller dx dy) = refl
-draws_and_last [] (Wheel x y dx dy) = refl
-draws_and_last [] Draw = refl
-draws_and_last [] (Await frame) = refl
-draws_and_last [] Settle = refl
-draws_and_last (Scroll scroller dx dy ∷ xs) x = draws_and_last xs x
-draws_and_last (Wheel a b dx dy ∷ xs) x = draws_and_last xs x
-draws_and_last (Draw ∷ xs) x = let e = draws_and_last xs x in omega (arith, e)
-draws_and_last (Await frame ∷ xs) x = draws_and_last xs x
-draws_and_last (Settle ∷ xs) x = draws_and_last xs x
-
-pub draws_first : (x : Input) (xs : List Input) → draw_count (x ∷ xs) ≡ draws_of x + draw_count xs
-draws_first (Scroll scroller dx dy) xs = omega arith
-draws_first (Wheel x y dx dy) xs = omega arith
-draws_first Draw xs = omega arith
-draws_first (Await frame) xs = omega arith
-draws_first Settle xs = omega arith
-
-same_tests : (a b : Bool) → (a ≡ true → b ≡ true) → (b ≡ true → a ≡ true) → a ≡ b
-same_tests true b to from = sym (to refl)
-same_tests false true to from = from refl
-same_tests false false to from = refl
-
-one_less : (n m : ℕ) → nat_le (suc n) m ≡ nat_lt n m
-one_less n m = same_tests (nat_le (suc n) m) (nat_lt n m) to from
-  where
-    to : nat_le (suc n) m ≡ true → nat_lt n m ≡ true
-    to t = grind (arith, nat_tests, t)
-
-    from : nat_lt n m ≡ true → nat_le (suc n) m ≡ true
-    from t = grind (arith, nat_tests, t)
-
 -- ---- ranges
-
--- what is left of the tests of a script, once those of its head and its lists are known
-left_of : (start count many each all fits draws few : Bool) → start ≡ true → count ≡ many → all ≡ true → each ≡ (all && fits) → draws ≡ few → (start && ((count && each) && draws)) ≡ ((many && fits) && few)
-left_of start count many each all fits draws few s c a e d =
-    ap (λ b. b && ((count && each) && draws)) s ∙ (ap (λ b. (b && each) && draws) c ∙ (ap (λ b. (many && b) && draws) (e ∙ ap (λ b. b && fits) a) ∙ ap (λ b. (many && fits) && b) d))
-
-pub input_room : (s : ScriptModel) (x : Input) → is_in_ranges s ≡ true → is_in_ranges (with_input s x) ≡ has_room (length s.main) s.inputs x
-unfolding is_in_ranges
-input_room s x t =
-    let f = input_in_range (length s.main) in
-    let start : head_in_range s && main_in_range s.version s.main ≡ true = and_left (head_in_range s && main_in_range s.version s.main) (inputs_in_range (length s.main) s.inputs) t in
-    let own : inputs_in_range (length s.main) s.inputs ≡ true = and_right (head_in_range s && main_in_range s.version s.main) (inputs_in_range (length s.main) s.inputs) t in
-    let each : list_all f s.inputs ≡ true =
-    and_right (nat_le (length s.inputs) 65536) (list_all f s.inputs) (and_left (nat_le (length s.inputs) 65536 && list_all f s.inputs) (nat_le (draw_count s.inputs) 4096) own) in
-    left_of (head_in_range s && main_in_range s.version s.main) (nat_le (length (s.inputs ++ x ∷ [])) 65536) (nat_lt (length s.inputs) 65536) (list_all f (s.inputs ++ x ∷ [])) (list_all f s.inputs) (f x)
-    (nat_le (draw_count (s.inputs ++ x ∷ [])) 4096) (nat_le (draw_count s.inputs + draws_of x) 4096) start
-    (ap (λ n. nat_le n 65536) (one_longer s.inputs x) ∙ one_less (length s.inputs) 65536) each (all_and_last f s.inputs x) (ap (λ n. nat_le n 4096) (draws_and_last s.inputs x))
-
-pub few_inputs : (s : ScriptModel) → is_in_ranges s ≡ true → length s.inputs ≤ 65536
-unfolding is_in_ranges
-few_inputs s t = at_most (and_left (nat_le (length s.inputs) 65536) (list_all (input_in_range (length s.main)) s.inputs) (and_left (nat_le (length s.inputs) 65536 && list_all (input_in_range (length s.main)) s.inputs) (nat_le (draw_count s.inputs) 4096)
-    (and_right (head_in_range s && main_in_range s.version s.main) (inputs_in_range (length s.main) s.inputs) t)))
-  where
-    at_most : nat_le (length s.inputs) 65536 ≡ true → length s.inputs ≤ 65536
-    at_most e = grind (arith, nat_tests, e)
 
 -- an input stays in its ranges with one main frame more
 still_fits : (n m : ℕ) → n ≤ m → (x : Input) → input_in_range n x ≡ true → input_in_range m x ≡ true
@@ -106,30 +47,6 @@ still_fits n m l Settle t = t
 pub all_fit_still : (n m : ℕ) → n ≤ m → (xs : List Input) → list_all (input_in_range n) xs ≡ true → list_all (input_in_range m) xs ≡ true
 all_fit_still n m l [] t = refl
 all_fit_still n m l (x ∷ xs) t = and_both (input_in_range m x) (list_all (input_in_range m) xs) (still_fits n m l x (and_left (input_in_range n x) (list_all (input_in_range n) xs) t)) (all_fit_still n m l xs (and_right (input_in_range n x) (list_all (input_in_range n) xs) t))
-
-frames_left : (head count many each own : Bool) → head ≡ true → count ≡ many → each ≡ true → own ≡ true → ((head && (count && each)) && own) ≡ many
-frames_left head count many each own h c e o =
-    ap (λ b. (b && (count && each)) && own) h ∙ (ap (λ b. (b && each) && own) c ∙ (ap (λ b. (many && b) && own) e ∙ (ap (λ b. (many && true) && b) o ∙ (and_true (many && true) ∙ and_true many))))
-
-pub main_frame_room : (s : ScriptModel) → is_in_ranges s ≡ true → is_in_ranges (with_main_frame s) ≡ nat_lt (length s.main) 4096
-unfolding is_in_ranges
-main_frame_room s t =
-    let all = list_all (command_in_range s.version) in
-    let start : head_in_range s && main_in_range s.version s.main ≡ true = and_left (head_in_range s && main_in_range s.version s.main) (inputs_in_range (length s.main) s.inputs) t in
-    let own : inputs_in_range (length s.main) s.inputs ≡ true = and_right (head_in_range s && main_in_range s.version s.main) (inputs_in_range (length s.main) s.inputs) t in
-    let frames : main_in_range s.version s.main ≡ true = and_right (head_in_range s) (main_in_range s.version s.main) start in
-    let each : list_all all s.main ≡ true = and_right (nat_le (length s.main) 4096) (list_all all s.main) frames in
-    let count : nat_le (length s.inputs) 65536 && list_all (input_in_range (length s.main)) s.inputs ≡ true =
-    and_left (nat_le (length s.inputs) 65536 && list_all (input_in_range (length s.main)) s.inputs) (nat_le (draw_count s.inputs) 4096) own in
-    let few : nat_le (draw_count s.inputs) 4096 ≡ true = and_right (nat_le (length s.inputs) 65536 && list_all (input_in_range (length s.main)) s.inputs) (nat_le (draw_count s.inputs) 4096) own in
-    let longer : length (s.main ++ [] ∷ []) ≡ suc (length s.main) = one_longer s.main [] in
-    let fit : list_all (input_in_range (length (s.main ++ [] ∷ []))) s.inputs ≡ true =
-    all_fit_still (length s.main) (length (s.main ++ [] ∷ [])) (omega (arith, longer)) s.inputs (and_right (nat_le (length s.inputs) 65536) (list_all (input_in_range (length s.main)) s.inputs) count) in
-    frames_left (head_in_range s) (nat_le (length (s.main ++ [] ∷ [])) 4096) (nat_lt (length s.main) 4096) (list_all all (s.main ++ [] ∷ [])) (inputs_in_range (length (s.main ++ [] ∷ [])) s.inputs)
-    (and_left (head_in_range s) (main_in_range s.version s.main) start)
-    (ap (λ n. nat_le n 4096) longer ∙ one_less (length s.main) 4096)
-    (all_and_last all s.main [] ∙ (and_true (list_all all s.main) ∙ each))
-    (and_both _ _ (and_both _ _ (and_left (nat_le (length s.inputs) 65536) (list_all (input_in_range (length s.main)) s.inputs) count) fit) few)
 
 -- ---- main frames of which the last has other commands
 
