@@ -1,1 +1,2 @@
+pub mod FramesRun
 pub mod HostFacts

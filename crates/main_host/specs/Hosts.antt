@@ -22,6 +22,12 @@ pub record IsHost (s : ScriptModel) (sends : List (List Move)) (p : Page) : Type
   pub few : length sends ≤ length s.main
   pub tree : p ≡ page s (pulls_in sends) (length sends)
 
+-- it has run the first n frames of the script, with these pulls
+pub record HasRun (s : ScriptModel) (ps : ℕ → List Move) (n : ℕ) (host : MainHostModel) : Type 0 where
+  pub script : host.script ≡ s
+  pub count : length host.sends ≡ n
+  pub each : (k : ℕ) → k < n → pulls_in host.sends k ≡ ps k
+
 -- the page that the main side keeps; the script's first page while it keeps none
 abbrev pub page_or_blank : ScriptModel → Option Page → Page
 page_or_blank s None = blank s

@@ -1,5 +1,5 @@
 -- The main side of a run, as it runs the frame in flight.
-use Rattle.std.proofs.Common.{◌≡◌, ℕ, suc, ◌<◌, ◌==◌, Bool, true, false, cond, not, ◌&&◌, List, [], ◌∷◌, ◌++◌, length, Option, Some, None, option_map, refl, sym, ◌∙◌, ap, arith}
+use Rattle.std.proofs.Common.{◌≡◌, ℕ, suc, Bool, true, false, cond, not, ◌&&◌, List, [], ◌∷◌, ◌++◌, length, Option, Some, None, option_map, refl, sym, ◌∙◌, ap, arith}
 use Rattle.model_states.specs.declared.kind.Kind.TheVariants as kind
 use Rattle.model_states.specs.Kinds.{is_sent}
 use Rattle.page_layers.specs.declared.moves.Move.{Move}
@@ -11,47 +11,25 @@ use Rattle.model_history.specs.Scans.{has_ended, newest, counted}
 use Rattle.model_history.specs.Frames.{changes, pulls_in, pulls_of}
 use Rattle.model_history.specs.Due.{due, on_if, due_ready, due_abort}
 use Rattle.model_history.specs.Legal.{sched, can, Legal}
-use Rattle.model_history.proofs.BoolFacts.{by_test, same_number, other_number}
 use Rattle.model_history.proofs.Course.{Course, course, sent_not_idle}
-use Rattle.model_history.proofs.PageFacts.{changes_alike}
 use Rattle.impl_log.specs.Runs.{Run, past}
-use Rattle.main_host.specs.Hosts.{MainHostModel, IsEnd, with_frame}
+use Rattle.main_host.specs.Hosts.{HasRun, MainHostModel, IsEnd}
 use Rattle.main_host.specs.declared.main_end.MainEnd.{MainEnd}
 use Rattle.main_host.specs.declared.main_end.MainEnd.TheVariants as end
-use Rattle.main_host.proofs.HostFacts.{pulls_last, pulls_before, more_long}
+use Rattle.main_host.proofs.FramesRun.{tells}
 use Rattle.impl_core.specs.Replies.{told_frame}
 use Rattle.proxy_single_thread.specs.inner.Ends.{is_ready}
-use Rattle.proxy_single_thread.specs.inner.Sides.{HasRun, IsEndOf}
+use Rattle.proxy_single_thread.specs.inner.Sides.{IsEndOf}
 
--- one frame more was run, with the pulls that it got
+-- how the frame ends that was run, with the pulls that it got
 
 module _ (s : ScriptModel) (ps : ℕ → List Move) (k : ℕ) (host : MainHostModel) (ms : List Move) (run : HasRun s ps k host) (is : ms ≡ ps k) where
-  more_each : (j : ℕ) → j < suc k → pulls_in (host.sends ++ ms ∷ []) j ≡ ps j
-  more_each j lt = by_test (j == k) at_last before
-    where
-      at_last : (j == k) ≡ true → pulls_in (host.sends ++ ms ∷ []) j ≡ ps j
-      at_last t =
-          let i : j ≡ k = same_number j k t in
-          ap (pulls_in (host.sends ++ ms ∷ [])) (i ∙ sym run.count) ∙ (pulls_last host.sends ms ∙ (is ∙ ap ps (sym i)))
-
-      before : (j == k) ≡ false → pulls_in (host.sends ++ ms ∷ []) j ≡ ps j
-      before f =
-          let other : j ≡ k → ⊥ = other_number j k f in
-          let below : j < k = omega (arith, lt, other) in
-          let count = run.count in
-          pulls_before host.sends ms j (omega (arith, below, count)) ∙ run.each j below
-
-  pub run_more : HasRun s ps (suc k) (with_frame host ms)
-  run_more = record { script = run.script; count = more_long host.sends ms ∙ ap suc run.count; each = more_each }
-
-  tells : changes host.script (pulls_in (host.sends ++ ms ∷ [])) (length host.sends) ≡ changes s ps k
-  tells =
-      ap (λ (z : ScriptModel). changes z (pulls_in (host.sends ++ ms ∷ [])) (length host.sends)) run.script
-      ∙ (ap (changes s (pulls_in (host.sends ++ ms ∷ []))) run.count ∙ changes_alike s (pulls_in (host.sends ++ ms ∷ [])) ps k more_each)
+  told : changes host.script (pulls_in (host.sends ++ ms ∷ [])) (length host.sends) ≡ changes s ps k
+  told = tells s ps k host ms run is
 
   pub ends_so : (e : MainEnd) → IsEnd host ms e → IsEndOf s ps k (host.sends ++ ms ∷ []) e
-  ends_so (end.Ready c) i = (sym tells ∙ i.0, i.1.frame ∙ run.count, i.1.script ∙ run.script, i.1.sends)
-  ends_so (end.Abort frame) i = (sym tells ∙ i.0, i.1 ∙ run.count)
+  ends_so (end.Ready c) i = (sym told ∙ i.0, i.1.frame ∙ run.count, i.1.script ∙ run.script, i.1.sends)
+  ends_so (end.Abort frame) i = (sym told ∙ i.0, i.1 ∙ run.count)
 
 -- a frame ends by a commit where it changes something
 pub ready_tells : (s : ScriptModel) (ps : ℕ → List Move) (k : ℕ) (lists : List (List Move)) (e : MainEnd) → IsEndOf s ps k lists e → is_ready e ≡ changes s ps k

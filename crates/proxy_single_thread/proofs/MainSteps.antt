@@ -18,12 +18,13 @@ use Rattle.model_history.proofs.BoolFacts.{is_other}
 use Rattle.model_history.proofs.DueFacts.{entry, at_send, at_commit}
 use Rattle.impl_log.specs.Runs.{Run, past, with_entry}
 use Rattle.impl_log.proofs.LogSteps.{past_more}
-use Rattle.main_host.specs.Hosts.{MainHostModel, IsEnd, with_frame}
+use Rattle.main_host.specs.Hosts.{HasRun, MainHostModel, IsEnd, with_frame}
 use Rattle.main_host.specs.declared.main_end.MainEnd.{MainEnd}
+use Rattle.main_host.proofs.FramesRun.{run_more}
 use Rattle.proxy_single_thread.specs.declared.main_side.MainSide.{MainSide}
 use Rattle.proxy_single_thread.specs.inner.Ends.{is_ready}
-use Rattle.proxy_single_thread.specs.inner.Sides.{HasRun, IsEndOf, IsAtRest, IsBefore, IsBehind, IsInFlight, IsMainOf, IsMain}
-use Rattle.proxy_single_thread.proofs.MainPulls.{run_more, ends_so, ready_tells}
+use Rattle.proxy_single_thread.specs.inner.Sides.{IsEndOf, IsAtRest, IsBefore, IsBehind, IsInFlight, IsMainOf, IsMain}
+use Rattle.proxy_single_thread.proofs.MainPulls.{ends_so, ready_tells}
 
 -- the main side after a past
 abbrev pub IsMainAt : ScriptModel → List Entry → MainSide → Type 0

@@ -1,5 +1,5 @@
 -- The main side of a run, once an event more has come.
-use Rattle.std.proofs.Common.{◌≡◌, ℕ, suc, ◌<◌, ◌≤◌, ◌==◌, true, false, cond, not, List, [], ◌∷◌, ◌++◌, length, Option, Some, None, refl, sym, ◌∙◌, ap, subst, arith}
+use Rattle.std.proofs.Common.{◌≡◌, ℕ, suc, ◌<◌, ◌≤◌, true, cond, not, List, [], ◌∷◌, ◌++◌, length, Option, Some, None, refl, sym, ◌∙◌, ap, subst, arith}
 use Rattle.model_states.specs.declared.kind.Kind.TheVariants as kind
 use Rattle.model_states.specs.Kinds.{is_sent}
 use Rattle.page_layers.specs.Pages.{Page}
@@ -18,50 +18,30 @@ use Rattle.model_history.specs.Stamps.{changed_by, unchanged, frame_changes}
 use Rattle.model_history.specs.SameChanges.{SameChanges}
 use Rattle.model_history.specs.Due.{due, on_if, due_ready, due_abort}
 use Rattle.model_history.specs.Legal.{sched, is_open, Legal}
-use Rattle.model_history.proofs.BoolFacts.{by_test, same_number, other_number, is_other, is_same, and_right, not_both}
+use Rattle.model_history.proofs.BoolFacts.{is_other, is_same, and_right, not_both}
 use Rattle.model_history.proofs.Course.{course, sent_not_idle, ready_not_idle}
 use Rattle.model_history.proofs.DueFacts.{entry, at_send, at_ready, at_commit}
 use Rattle.model_history.proofs.FrameFacts.{changes_course}
-use Rattle.model_history.proofs.PageFacts.{changes_alike, page_alike, page_before_alike}
+use Rattle.model_history.proofs.PageFacts.{page_alike, page_before_alike}
 use Rattle.model_history.proofs.PullBounds.{pulls_bounded}
 use Rattle.model_history.proofs.RangeBounds.{sent_few}
 use Rattle.model_steps.specs.Events.{send}
-use Rattle.main_host.specs.Hosts.{MainHostModel, IsEnd, with_frame}
+use Rattle.main_host.specs.Hosts.{HasRun, MainHostModel, IsEnd, with_frame}
 use Rattle.main_host.specs.declared.main_end.MainEnd.{MainEnd}
 use Rattle.main_host.specs.declared.main_end.MainEnd.TheVariants as end
-use Rattle.main_host.proofs.HostFacts.{pulls_last, pulls_before, more_long}
+use Rattle.main_host.proofs.FramesRun.{more_each, run_more, tells}
 use Rattle.recording_judge.specs.declared.judged_main.JudgedMain.{JudgedMain}
-use Rattle.recording_judge.specs.inner.Mains.{HasRun, IsCommitOf, IsEndOf, EndsSo, IsCommitted, IsMain, ready_event, abort_event}
+use Rattle.recording_judge.specs.inner.Mains.{IsCommitOf, IsEndOf, EndsSo, IsCommitted, IsMain, ready_event, abort_event}
 
--- one frame more was run, with the pulls that it got
+-- how the frame ends that was run, with the pulls that it got
 
 module _ (s : ScriptModel) (ps : ℕ → List Move) (k : ℕ) (host : MainHostModel) (ms : List Move) (run : HasRun s ps k host) (is : ms ≡ ps k) where
-  more_each : (j : ℕ) → j < suc k → pulls_in (host.sends ++ ms ∷ []) j ≡ ps j
-  more_each j lt = by_test (j == k) at_last before
-    where
-      at_last : (j == k) ≡ true → pulls_in (host.sends ++ ms ∷ []) j ≡ ps j
-      at_last t =
-          let i : j ≡ k = same_number j k t in
-          ap (pulls_in (host.sends ++ ms ∷ [])) (i ∙ sym run.count) ∙ (pulls_last host.sends ms ∙ (is ∙ ap ps (sym i)))
-
-      before : (j == k) ≡ false → pulls_in (host.sends ++ ms ∷ []) j ≡ ps j
-      before f =
-          let other : j ≡ k → ⊥ = other_number j k f in
-          let below : j < k = omega (arith, lt, other) in
-          let count = run.count in
-          pulls_before host.sends ms j (omega (arith, below, count)) ∙ run.each j below
-
-  run_more : HasRun s ps (suc k) (with_frame host ms)
-  run_more = record { script = run.script; count = more_long host.sends ms ∙ ap suc run.count; each = more_each }
-
-  tells : changes host.script (pulls_in (host.sends ++ ms ∷ [])) (length host.sends) ≡ changes s ps k
-  tells =
-      ap (λ (z : ScriptModel). changes z (pulls_in (host.sends ++ ms ∷ [])) (length host.sends)) run.script
-      ∙ (ap (changes s (pulls_in (host.sends ++ ms ∷ []))) run.count ∙ changes_alike s (pulls_in (host.sends ++ ms ∷ [])) ps k more_each)
+  told : changes host.script (pulls_in (host.sends ++ ms ∷ [])) (length host.sends) ≡ changes s ps k
+  told = tells s ps k host ms run is
 
   committed : (c : CommitModel) → IsCommit c → c.script ≡ s → c.frame ≡ k → c.sends ≡ host.sends ++ ms ∷ [] → IsCommitOf s ps k c
   committed c commit same frame sent =
-      let below : (j : ℕ) → j < suc k → pulls_in c.sends j ≡ ps j = λ j lt. ap (λ (l : List (List Move)). pulls_in l j) sent ∙ more_each j lt in
+      let below : (j : ℕ) → j < suc k → pulls_in c.sends j ≡ ps j = λ j lt. ap (λ (l : List (List Move)). pulls_in l j) sent ∙ more_each s ps k host ms run is j lt in
       let after : page c.script (pulls_in c.sends) (suc c.frame) ≡ page s ps (suc k) =
       (λ i. page (same i) (pulls_in c.sends) (suc (frame i))) ∙ page_alike s (pulls_in c.sends) ps (suc k) below in
       let changed : frame_changes c.script (pulls_in c.sends) c.frame ≡ frame_changes s ps k =
@@ -70,8 +50,8 @@ module _ (s : ScriptModel) (ps : ℕ → List Move) (k : ℕ) (host : MainHostMo
       record { frame = frame; page = commit.tree ∙ after; changes = subst (SameChanges c.changes) changed commit.changes }
 
   ends_so : (e : MainEnd) → IsEnd host ms e → IsEndOf s ps k e
-  ends_so (end.Ready c) i = (sym tells ∙ i.0, committed c i.1.commit (i.1.script ∙ run.script) (i.1.frame ∙ run.count) i.1.sends)
-  ends_so (end.Abort frame) i = (sym tells ∙ i.0, i.1 ∙ run.count)
+  ends_so (end.Ready c) i = (sym told ∙ i.0, committed c i.1.commit (i.1.script ∙ run.script) (i.1.frame ∙ run.count) i.1.sends)
+  ends_so (end.Abort frame) i = (sym told ∙ i.0, i.1 ∙ run.count)
 
 -- at the beginning
 

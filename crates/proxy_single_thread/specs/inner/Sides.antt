@@ -8,11 +8,11 @@ use Rattle.page_layers.specs.declared.moves.Move.{Move}
 use Rattle.model_history.specs.Scripts.{ScriptModel}
 use Rattle.model_history.specs.EventFields.{sends}
 use Rattle.model_history.specs.Scans.{counted, held}
-use Rattle.model_history.specs.Frames.{changes, pulls_in, pulls_of}
+use Rattle.model_history.specs.Frames.{changes, pulls_of}
 use Rattle.model_history.specs.Legal.{sched}
 use Rattle.model_steps.specs.ShownKeys.{KeyShows}
 use Rattle.impl_log.specs.Runs.{Run, past}
-use Rattle.main_host.specs.Hosts.{MainHostModel}
+use Rattle.main_host.specs.Hosts.{HasRun}
 use Rattle.main_host.specs.declared.main_end.MainEnd.{MainEnd}
 use Rattle.main_host.specs.declared.main_end.MainEnd.TheVariants as end
 use Rattle.proxy_single_thread.specs.Singles.{AreScenes}
@@ -22,12 +22,6 @@ use Rattle.proxy_single_thread.specs.declared.unwritten_scenes.UnwrittenScenes.{
 use Rattle.proxy_single_thread.specs.inner.Images.{ArePrepared}
 
 -- ---- the main side
-
--- it has run the first n frames of the script, with these pulls
-pub record HasRun (s : ScriptModel) (ps : ℕ → List Move) (n : ℕ) (host : MainHostModel) : Type 0 where
-  pub script : host.script ≡ s
-  pub count : length host.sends ≡ n
-  pub each : (k : ℕ) → k < n → pulls_in host.sends k ≡ ps k
 
 -- how frame k ends, with the pulls of the frames up to it: by its commit if it changes something, else by an abort
 abbrev pub IsEndOf : ScriptModel → (ℕ → List Move) → ℕ → List (List Move) → MainEnd → Type 0

@@ -1,5 +1,5 @@
 -- What a judge keeps of the main side of a run.
-use Rattle.std.specs.Prelude.{◌≡◌, ℕ, suc, ◌<◌, Bool, true, false, List, ◌∷◌, length, Option, Some, None}
+use Rattle.std.specs.Prelude.{◌≡◌, ℕ, suc, Bool, true, false, List, ◌∷◌, Option, Some, None}
 use Rattle.model_states.specs.Kinds.{is_main_idle}
 use Rattle.page_layers.specs.declared.moves.Move.{Move}
 use Rattle.model_history.specs.declared.event.Event.{Event}
@@ -10,21 +10,15 @@ use Rattle.model_history.specs.Accepted.{IsPlayable}
 use Rattle.model_history.specs.Commits.{CommitModel}
 use Rattle.model_history.specs.EventFields.{sends}
 use Rattle.model_history.specs.Scans.{counted, newest}
-use Rattle.model_history.specs.Frames.{page, changes, pulls_in, pulls_of}
+use Rattle.model_history.specs.Frames.{page, changes, pulls_of}
 use Rattle.model_history.specs.Stamps.{frame_changes}
 use Rattle.model_history.specs.SameChanges.{SameChanges}
 use Rattle.model_history.specs.Legal.{sched, Legal}
 use Rattle.model_steps.specs.Events.{send}
-use Rattle.main_host.specs.Hosts.{MainHostModel}
+use Rattle.main_host.specs.Hosts.{HasRun}
 use Rattle.main_host.specs.declared.main_end.MainEnd.{MainEnd}
 use Rattle.main_host.specs.declared.main_end.MainEnd.TheVariants as end
 use Rattle.recording_judge.specs.declared.judged_main.JudgedMain.{JudgedMain}
-
--- it has run the first n frames of the script, with these pulls
-pub record HasRun (s : ScriptModel) (ps : ℕ → List Move) (n : ℕ) (host : MainHostModel) : Type 0 where
-  pub script : host.script ≡ s
-  pub count : length host.sends ≡ n
-  pub each : (k : ℕ) → k < n → pulls_in host.sends k ≡ ps k
 
 -- the commit of frame k with these pulls: the page after it, and what it changed
 pub record IsCommitOf (s : ScriptModel) (ps : ℕ → List Move) (k : ℕ) (c : CommitModel) : Type 0 where
