@@ -21,6 +21,7 @@ use Rattle.model_history.specs.declared.history.Entry.{Entry}
 use Rattle.model_history.specs.declared.input.Input.{Input}
 use Rattle.model_history.specs.declared.input.Input.TheVariants as input
 use Rattle.model_history.specs.Scripts.{ScriptModel}
+use Rattle.model_history.specs.Accepted.{IsAccepted}
 use Rattle.model_states.specs.Kinds.{is_sent}
 use Rattle.model_history.specs.EventFields.{kind_of, uses, sends, answers, held_after, is_last}
 use Rattle.model_history.specs.Scans.{counted, one_more, held, has_ended}
@@ -138,6 +139,7 @@ told_after r waits draws a e t last looks none =
       sent = subst (λ (h : List Entry). length r.script.main ≤ counted sends h + 1) (sym p) (omega (arith, s, sent));
       all_sent = subst (λ (h : List Entry). is_sent (sched h).main_state ≡ true → length r.script.main ≤ counted sends h) (sym p) (all_after (past r) a e (length r.script.main) t.sent t.all_sent);
       version = t.version;
+      accepted = t.accepted;
     }
 
 used_after : (r : Run) (x : Input) (draws : ℕ) (a : ℕ) (e : Event) → IsTold r (Some x) draws → Takes e → IsTold (with_entry r a e) None draws
@@ -157,6 +159,7 @@ used_after r x draws a e t l =
       sent = subst (λ (h : List Entry). length r.script.main ≤ counted sends h + 1) (sym p) (omega (arith, s, sent));
       all_sent = subst (λ (h : List Entry). is_sent (sched h).main_state ≡ true → length r.script.main ≤ counted sends h) (sym p) (all_after (past r) a e (length r.script.main) t.sent t.all_sent);
       version = t.version;
+      accepted = t.accepted;
     }
 
 -- a key of a page that the script has stays one
@@ -283,8 +286,8 @@ settled_in s t h (Some q) pages stamps i = record {
 }
 
 -- an input that is told
-pub told_more : (r : Run) (x : Input) (draws : ℕ) (jobs : List (Option Job)) → IsLive r None draws jobs → IsLive (with_script r (with_input r.script x)) (Some x) (draws + one_if (is_draw x)) jobs
-told_more r x draws jobs live =
+pub told_more : (r : Run) (x : Input) (draws : ℕ) (jobs : List (Option Job)) → IsAccepted (with_input r.script x) → IsLive r None draws jobs → IsLive (with_script r (with_input r.script x)) (Some x) (draws + one_if (is_draw x)) jobs
+told_more r x draws jobs accepted live =
     let s : ScriptModel = r.script in
     let t = live.told in
     let all : length s.inputs ≡ counted uses (past r) + 0 = t.used in
@@ -301,6 +304,7 @@ told_more r x draws jobs live =
         sent = t.sent;
         all_sent = t.all_sent;
         version = t.version;
+        accepted = accepted;
       };
       out = record {
         count = live.out.count;
@@ -322,14 +326,14 @@ no_commands [] (suc k) = refl
 no_commands (f ∷ fs) zero = refl
 no_commands (f ∷ fs) (suc k) = no_commands fs k
 
-frame_more : (r : Run) (waits : Option Input) (draws : ℕ) (jobs : List (Option Job)) → length r.script.main ≤ counted sends (past r) → is_sent (sched (past r)).main_state ≡ false → IsLive r waits draws jobs → IsLive (with_script r (with_main_frame r.script)) waits draws jobs
-frame_more r waits draws jobs none free live =
+frame_more : (r : Run) (waits : Option Input) (draws : ℕ) (jobs : List (Option Job)) → length r.script.main ≤ counted sends (past r) → is_sent (sched (past r)).main_state ≡ false → IsAccepted (with_main_frame r.script) → IsLive r waits draws jobs → IsLive (with_script r (with_main_frame r.script)) waits draws jobs
+frame_more r waits draws jobs none free accepted live =
     let s : ScriptModel = r.script in
     let t = live.told in
     let l : length (s.main ++ [] ∷ []) ≡ suc (length s.main) = longer s.main [] in
     let no : (i : ℕ) → i < 0 → slice_get s.inputs i ≡ slice_get s.inputs i = λ i h. refl in
     record {
-      told = record { going = t.going; looked = t.looked; used = t.used; next = t.next; draws_are = t.draws_are; sent = omega (arith, l, none); all_sent = λ u. absurd (not_both (is_sent (sched (past r)).main_state) u free); version = t.version };
+      told = record { going = t.going; looked = t.looked; used = t.used; next = t.next; draws_are = t.draws_are; sent = omega (arith, l, none); all_sent = λ u. absurd (not_both (is_sent (sched (past r)).main_state) u free); version = t.version; accepted = accepted };
       out = record {
         count = live.out.count;
         settled = λ w lt. settled_in s (with_main_frame s) (past r) (held w (past r))
@@ -375,9 +379,9 @@ worn_frames s n h k l e many = let all = sent_few s n h l in omega (arith, all, 
 
 -- what telling a main frame answers
 pub frame_told : (r new : Run) (waits : Option Input) (draws : ℕ) (jobs : List (Option Job)) (x : Result ⊤ AllocError) → OnOk x (new ≡ with_script r (with_main_frame r.script)) → OnErr x (new ≡ r)
-    → is_left r.script (past r) ≡ false → is_sent (sched (past r)).main_state ≡ false → IsLive r waits draws jobs → IsLive new waits draws jobs
-frame_told r new waits draws jobs (Ok u) e f left free live = subst (λ (z : Run). IsLive z waits draws jobs) (sym e) (frame_more r waits draws jobs (none_left r.script (past r) left) free live)
-frame_told r new waits draws jobs (Err refused) e f left free live = same r new waits draws jobs f live
+    → is_left r.script (past r) ≡ false → is_sent (sched (past r)).main_state ≡ false → IsAccepted (with_main_frame r.script) → IsLive r waits draws jobs → IsLive new waits draws jobs
+frame_told r new waits draws jobs (Ok u) e f left free accepted live = subst (λ (z : Run). IsLive z waits draws jobs) (sym e) (frame_more r waits draws jobs (none_left r.script (past r) left) free accepted live)
+frame_told r new waits draws jobs (Err refused) e f left free accepted live = same r new waits draws jobs f live
 
 -- a main frame that was just told is left to be sent
 pub one_left : (s : ScriptModel) (n : ℕ) (h : List Entry) → Legal s n h → nat_lt (counted sends h) (length (s.main ++ [] ∷ [])) ≡ true

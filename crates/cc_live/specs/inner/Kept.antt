@@ -11,7 +11,7 @@ use Rattle.model_states.specs.Kinds.{is_sent}
 use Rattle.model_history.specs.declared.history.Entry.{Entry}
 use Rattle.model_history.specs.declared.input.Input.{Input}
 use Rattle.model_history.specs.Scripts.{ScriptModel}
-use Rattle.model_history.specs.Accepted.{TakesAll}
+use Rattle.model_history.specs.Accepted.{IsAccepted, TakesAll}
 use Rattle.model_history.specs.EventFields.{uses, sends, answers}
 use Rattle.model_history.specs.Scans.{counted, held, has_ended}
 use Rattle.model_history.specs.Due.{input_now}
@@ -29,7 +29,7 @@ abbrev pub waiting : Option Input → ℕ
 waiting None = 0
 waiting (Some x) = 1
 
--- nothing has ended the run or looked ahead in it; all inputs were used but for one that waits; that many of them are draws; at most one main frame is not sent, and none while one is in flight; and the script is of the newest version
+-- nothing has ended the run or looked ahead in it; all inputs were used but for one that waits; that many of them are draws; at most one main frame is not sent, and none while one is in flight; and the script is accepted, and of the newest version
 pub record IsTold (r : Run) (waits : Option Input) (draws : ℕ) : Type 0 where
   pub going : has_ended (past r) ≡ false
   pub looked : has_looked_ahead (past r) ≡ false
@@ -39,6 +39,7 @@ pub record IsTold (r : Run) (waits : Option Input) (draws : ℕ) : Type 0 where
   pub sent : length r.script.main ≤ counted sends (past r) + 1
   pub all_sent : is_sent (sched (past r)).main_state ≡ true → length r.script.main ≤ counted sends (past r)
   pub version : r.script.version ≡ 2
+  pub accepted : IsAccepted r.script
 
 -- the job makes this key, and shows it in every page of the script that has it
 pub record IsJobOf (s : ScriptModel) (q : TileKey) (job : Job) : Type 0 where

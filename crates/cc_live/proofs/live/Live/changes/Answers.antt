@@ -12,7 +12,7 @@ use Rattle.cc_live.proofs.live.Live.changes.Goals as goal
 
 pub changes_something-requires : goal.changes_something-requires
 changes_something-requires c =
-    subst AreBounded (sym c.as_slice.ensures) (flying_bounded c.self.inside.core c.in-Some.field-0-0 c.in-Some.pulls.now c.is_legal.ensures.legal c.is_legal.ensures.accepted (sym c.in-Some.ensures))
+    subst AreBounded (sym c.as_slice.ensures) (flying_bounded c.self.inside.core c.in-Some.field-0-0 c.in-Some.pulls.now c.is_legal.ensures.legal c.is_legal.ensures.playable (sym c.in-Some.ensures))
 
 pub returns : goal.returns
 returns c =

@@ -10,7 +10,7 @@ use Rattle.cc_live.proofs.ToldRuns.{room_for, worn_for}
 use Rattle.cc_live.proofs.live.Live.has_room_for.Goals as goal
 
 pub has_room-requires : goal.has_room-requires
-has_room-requires c = subst (λ (n : ℕ). n ≤ 4096) c.self.invariant.0.told.draws_are (most_draws c.self.inside.core.script c.is_legal.ensures.accepted)
+has_room-requires c = subst (λ (n : ℕ). n ≤ 4096) c.self.invariant.0.told.draws_are (most_draws c.self.inside.core.script c.self.invariant.0.told.accepted)
 
 pub returns-clause-room : goal.returns-clause-room
 returns-clause-room c = λ t.

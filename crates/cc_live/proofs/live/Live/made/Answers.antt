@@ -16,7 +16,7 @@ use Rattle.cc_live.proofs.live.Live.made.Goals as goal
 
 pub made_of-requires-clause-bounded : goal.made_of-requires-clause-bounded
 made_of-requires-clause-bounded c =
-    subst AreBounded (sym c.as_slice.ensures) (flying_bounded c.self.inside.core c.in-Some.frame c.in-Some.pulls.now c.is_legal.ensures.legal c.is_legal.ensures.accepted (sym c.in-Some.ensures))
+    subst AreBounded (sym c.as_slice.ensures) (flying_bounded c.self.inside.core c.in-Some.frame c.in-Some.pulls.now c.is_legal.ensures.legal c.is_legal.ensures.playable (sym c.in-Some.ensures))
 
 pub made_of-requires-clause-takes : goal.made_of-requires-clause-takes
 made_of-requires-clause-takes c =

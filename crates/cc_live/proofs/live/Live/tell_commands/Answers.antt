@@ -18,7 +18,7 @@ end_frame-requires-clause-accepted c =
     let e : told_frame r ≡ Some (c.args.frame, c.requires.pulls) = ap told_frame same ∙ c.requires.in_flight in
     let frame : OpenModel = record { page = c.in-Some.edited.page; commands = c.in-Some.edited.commands.items } in
     let side : IsMainSide r c.self.inside.main.value (Some frame) = subst (λ (o : Option OpenFrame). IsMainSide r c.self.inside.main.value (open_of o)) (sym c.in-Some.ensures.value) c.self.invariant.1 in
-    told_accepted r c.is_legal.ensures.legal c.args.frame c.requires.pulls (flying r c.args.frame c.requires.pulls e) c.self.inside.main.value frame side c.self.inside.waits c.self.inside.draws c.self.invariant.0.told c.is_legal.ensures.accepted
+    told_accepted r c.is_legal.ensures.legal c.args.frame c.requires.pulls (flying r c.args.frame c.requires.pulls e) c.self.inside.main.value frame side c.self.inside.waits c.self.inside.draws c.self.invariant.0.told c.self.invariant.0.told.accepted
 
 pub end_frame-requires-clause-short : goal.end_frame-requires-clause-short
 end_frame-requires-clause-short c =
@@ -38,7 +38,7 @@ invariant_of-self c =
     let frame : OpenModel = record { page = c.in-Some.edited.page; commands = c.in-Some.edited.commands.items } in
     let side : IsMainSide r c.self.inside.main.value (Some frame) = subst (λ (o : Option OpenFrame). IsMainSide r c.self.inside.main.value (open_of o)) (sym c.in-Some.ensures.value) c.self.invariant.1 in
     subst (λ (o : Option OpenFrame). IsLive c.end_frame.new.self c.self.inside.waits c.self.inside.draws c.self.inside.jobs.items × IsMainSide c.end_frame.new.self c.self.inside.main.value (open_of o)) (sym c.take.ensures.after)
-    (both_told r c.end_frame.new.self c.self.inside.waits c.self.inside.draws c.self.inside.jobs.items c.self.inside.main.value frame c.args.frame c.requires.pulls c.end_frame.result c.is_legal.ensures.legal c.is_legal.ensures.accepted e c.end_frame.ensures.ok c.end_frame.ensures.err (c.self.invariant.0, side))
+    (both_told r c.end_frame.new.self c.self.inside.waits c.self.inside.draws c.self.inside.jobs.items c.self.inside.main.value frame c.args.frame c.requires.pulls c.end_frame.result c.is_legal.ensures.legal c.self.invariant.0.told.accepted e c.end_frame.ensures.ok c.end_frame.ensures.err (c.self.invariant.0, side))
 
 pub returns-clause-made : goal.returns-clause-made
 returns-clause-made c =

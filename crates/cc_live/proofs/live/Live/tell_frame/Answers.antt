@@ -27,7 +27,7 @@ returns-then-progress-ge-MOST_FRAMES c = record {
 
 pub add_frame-requires-clause-accepted : goal.add_frame-requires-clause-accepted
 add_frame-requires-clause-accepted c =
-    accepted_more c.self.inside.core.script c.is_legal.ensures.accepted
+    accepted_more c.self.inside.core.script c.self.invariant.0.told.accepted
     (few_left c.self.inside.core.script (past c.self.inside.core) c.progress.result.sends
     (subst (λ (r : Run). is_left r.script (past r) ≡ false) (sym (ap (λ (l : LiveModel). l.run) c.self.view_is)) c.requires.none)
     (ap (λ (p : Progress). p.sends) c.progress.ensures) (grind (arith, nat_tests, c.if-progress-ge-MOST_FRAMES.false)))
@@ -37,6 +37,10 @@ invariant_of-self c = (
   frame_told c.self.inside.core c.add_frame.new.self c.self.inside.waits c.self.inside.draws c.self.inside.jobs.items c.add_frame.result c.add_frame.ensures.ok c.add_frame.ensures.err
       (subst (λ (r : Run). is_left r.script (past r) ≡ false) (sym (ap (λ (l : LiveModel). l.run) c.self.view_is)) c.requires.none)
       (subst (λ (r : Run). is_sent (sched (past r)).main_state ≡ false) (sym (ap (λ (l : LiveModel). l.run) c.self.view_is)) c.requires.free)
+      (accepted_more c.self.inside.core.script c.self.invariant.0.told.accepted
+      (few_left c.self.inside.core.script (past c.self.inside.core) c.progress.result.sends
+      (subst (λ (r : Run). is_left r.script (past r) ≡ false) (sym (ap (λ (l : LiveModel). l.run) c.self.view_is)) c.requires.none)
+      (ap (λ (p : Progress). p.sends) c.progress.ensures) (grind (arith, nat_tests, c.if-progress-ge-MOST_FRAMES.false))))
       c.self.invariant.0,
   side_frame_told c.self.inside.core c.add_frame.new.self c.self.inside.main.value (open_of c.self.inside.open_frame) c.add_frame.result c.add_frame.ensures.ok c.add_frame.ensures.err c.self.invariant.1,
 )
