@@ -1,7 +1,7 @@
 //! The two compositors.
 
 use cc::Compositor;
-use cc_live::{Live, Settings};
+use cc_live::{Live, LiveFault, MainFault, Settings};
 use geom::Rect;
 use page_display_list::Item;
 use page_layers::View;
@@ -35,6 +35,24 @@ pub(crate) enum Trouble {
 impl From<AllocError> for Trouble {
     fn from(_: AllocError) -> Trouble {
         Trouble::Memory
+    }
+}
+
+impl From<LiveFault> for Trouble {
+    fn from(fault: LiveFault) -> Trouble {
+        match fault {
+            LiveFault::Memory(_) => Trouble::Memory,
+            _ => Trouble::Refused,
+        }
+    }
+}
+
+impl From<MainFault> for Trouble {
+    fn from(fault: MainFault) -> Trouble {
+        match fault {
+            MainFault::Memory(_) => Trouble::Memory,
+            _ => Trouble::Refused,
+        }
     }
 }
 

@@ -1,7 +1,6 @@
 //! The calls of the threads.
 
 use crate::pair::{Pair, Trouble};
-use cc_live::{LiveFault, MainFault};
 use test_table::Dice;
 
 // How many tiles are made at most between two calls.
@@ -10,27 +9,15 @@ const MOST_TILES: u32 = 4_000;
 impl Pair {
     /// The main thread's part of a frame: it is asked, takes what was scrolled, edits, and ends the frame.
     pub(crate) fn run_main(&mut self, dice: &mut Dice, is_first: bool) -> Result<(), Trouble> {
-        match self.live.ask() {
-            Ok(()) => {}
-            Err(LiveFault::Memory(_)) => return Err(Trouble::Memory),
-            Err(_) => return Err(Trouble::Refused),
-        }
-        match self.live.main_begin() {
-            Ok(_) => {}
-            Err(MainFault::Memory(_)) => return Err(Trouble::Memory),
-            Err(_) => return Err(Trouble::Refused),
-        }
+        self.live.ask()?;
+        self.live.main_begin()?;
         if is_first {
             self.add_all(dice)?;
         }
         for _ in 0..dice.below(6) {
             self.edit_some(dice)?;
         }
-        match self.live.main_end() {
-            Ok(_) => {}
-            Err(MainFault::Memory(_)) => return Err(Trouble::Memory),
-            Err(_) => return Err(Trouble::Refused),
-        }
+        self.live.main_end()?;
         self.other.commit()?;
         self.live.commit()?;
         Ok(())
@@ -75,31 +62,20 @@ impl Pair {
     pub(crate) fn scroll(&mut self, dice: &mut Dice) -> Result<(), Trouble> {
         let dx = dice.below(60) as i32 - 30;
         let dy = dice.below(80) as i32 - 30;
-        match self.live.scroll(1, dx, dy) {
-            Ok(()) => {}
-            Err(LiveFault::Memory(_)) => return Err(Trouble::Memory),
-            Err(_) => return Err(Trouble::Refused),
-        }
+        self.live.scroll(1, dx, dy)?;
         self.other.scroll(1, dx, dy);
         Ok(())
     }
 
     /// Begins an impl frame.
     pub(crate) fn tick(&mut self) -> Result<(), Trouble> {
-        match self.live.tick() {
-            Ok(()) => Ok(()),
-            Err(LiveFault::Memory(_)) => Err(Trouble::Memory),
-            Err(_) => Err(Trouble::Refused),
-        }
+        self.live.tick()?;
+        Ok(())
     }
 
     /// Draws and ends the impl frame; answers whether the two pictures are the same.
     pub(crate) fn draw(&mut self) -> Result<bool, Trouble> {
-        let scene = match self.live.draw() {
-            Ok(scene) => scene,
-            Err(LiveFault::Memory(_)) => return Err(Trouble::Memory),
-            Err(_) => return Err(Trouble::Refused),
-        };
+        let scene = self.live.draw()?;
         self.live.finish()?;
         match scene {
             None => Ok(false),
