@@ -12,7 +12,6 @@ ghost use Rattle.cc_live.specs.Calls.{UsesInput, Tells, HasRoom, IsWorn, IsWornF
 
 use crate::fault::LiveFault;
 use crate::live::Live;
-use crate::ranges::{is_scroll, is_wheel};
 use impl_core::{Core, CoreFault};
 use model_history::Input;
 use model_states::Kind;
@@ -193,6 +192,17 @@ impl Live {
         }
     }
 
+    // Tells an input and uses it, if its numbers are in their ranges.
+    fn use_in_range(&mut self, input: Input) -> Result<(), LiveFault>
+        requires host { is_for_host input ≡ true }
+        ensures { UsesInput self.old input self.new result }
+    {
+        if !input.is_in_range(0) {
+            return Err(LiveFault::OutOfRange);
+        }
+        self.use_input(input)
+    }
+
     /// Begins an impl frame, which is to be drawn. `NotNow` comes if one is open or another input waits, `Worn` after
     /// 4,096 draws or 65,536 inputs.
     ///
@@ -214,10 +224,7 @@ impl Live {
     pub fn scroll(&mut self, scroller: u32, dx: i32, dy: i32) -> Result<(), LiveFault>
         ensures { UsesInput self.old (input.Scroll scroller dx dy) self.new result }
     {
-        if !is_scroll(scroller, dx, dy) {
-            return Err(LiveFault::OutOfRange);
-        }
-        self.use_input(Input::Scroll { scroller, dx, dy })
+        self.use_in_range(Input::Scroll { scroller, dx, dy })
     }
 
     /// Turns the wheel at a point of the screen: it scrolls what lies there, and what that leaves goes to the
@@ -227,9 +234,6 @@ impl Live {
     pub fn wheel(&mut self, x: u32, y: u32, dx: i32, dy: i32) -> Result<(), LiveFault>
         ensures { UsesInput self.old (input.Wheel x y dx dy) self.new result }
     {
-        if !is_wheel(x, y, dx, dy) {
-            return Err(LiveFault::OutOfRange);
-        }
-        self.use_input(Input::Wheel { x, y, dx, dy })
+        self.use_in_range(Input::Wheel { x, y, dx, dy })
     }
 }

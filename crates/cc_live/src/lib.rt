@@ -18,7 +18,6 @@ mod main_edits;
 mod main_fault;
 mod main_side;
 mod open_frame;
-mod ranges;
 mod settings;
 
 pub use fault::LiveFault;
