@@ -116,7 +116,6 @@ edit_kept p old new c (Err (fault.Refused why)) fits e i = same_frame p (record 
 edit_kept p old new c (Err fault.Worn) fits e i = same_frame p (record { page = old.page; commands = old.commands.items }) (record { page = new.page; commands = new.commands.items }) e.1 e.2 i
 edit_kept p old new c (Err (fault.Memory refused)) fits e i = same_frame p (record { page = old.page; commands = old.commands.items }) (record { page = new.page; commands = new.commands.items }) e.0 e.1 i
 edit_kept p old new c (Err fault.NotNow) fits e i = absurd e
-edit_kept p old new c (Err fault.OutOfRange) fits e i = absurd e
 
 frame_is : (l : LiveModel) (old new : OpenFrame) → l.open_frame ≡ open_of (Some old) → new.page ≡ old.page → new.commands.items ≡ old.commands.items → record l { open_frame = open_of (Some new) } ≡ l
 frame_is l old new was pages commands =
@@ -128,7 +127,6 @@ edits_of l old new c (Err (fault.Refused why)) was e = (record { page = old.page
 edits_of l old new c (Err fault.Worn) was e = (record { page = old.page; commands = old.commands.items }, was, e.0, frame_is l old new was e.1 e.2)
 edits_of l old new c (Err (fault.Memory refused)) was e = frame_is l old new was e.0 e.1
 edits_of l old new c (Err fault.NotNow) was e = absurd e
-edits_of l old new c (Err fault.OutOfRange) was e = absurd e
 
 -- ---- the main frame in flight
 

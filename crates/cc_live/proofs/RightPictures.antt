@@ -11,7 +11,7 @@ use Rattle.model_history.proofs.BoolFacts.{and_both}
 next_alpha : (i : ℕ) → alpha_place (suc (suc (suc (suc i)))) ≡ suc (suc (suc (suc (alpha_place i))))
 next_alpha i = omega arith
 
-colour_is : (r g b a : ℕ) → r ≤ a → g ≤ a → b ≤ a → a < 256 → is_colour (record { r = r; g = g; b = b; a = a }) ≡ true
+pub colour_is : (r g b a : ℕ) → r ≤ a → g ≤ a → b ≤ a → a < 256 → is_colour (record { r = r; g = g; b = b; a = a }) ≡ true
 colour_is r g b a p q s t = grind (arith, nat_tests)
 
 later : (r g b a : ℕ) (rest : List ℕ) → ArePremultiplied (r ∷ g ∷ b ∷ a ∷ rest) → ArePremultiplied rest

@@ -9,7 +9,6 @@ use Rattle.model_history.specs.declared.event.Event.{Event}
 use Rattle.model_history.specs.declared.event.Event.TheVariants as event
 use Rattle.model_history.specs.Frames.{changes, pulls_of}
 use Rattle.model_history.specs.Growth.{with_commands}
-use Rattle.model_history.specs.Ranges.{command_in_range}
 use Rattle.model_history.specs.SameChanges.{SameChanges}
 use Rattle.model_history.specs.Stamps.{changed_by, unchanged}
 use Rattle.impl_core.specs.Handovers.{IsPreparedFor}
@@ -41,12 +40,11 @@ OpensPage l (Err _) = ⊥
 abbrev pub edited : OpenModel → Command → OpenModel
 edited frame c = record { page = page_after_command frame.page c; commands = frame.commands ++ c ∷ [] }
 
--- the page of the open main frame took the command; or it refused it with its first fault; or no main frame is open; or a number of the command is out of its range; or the frame has as many commands as it may; or memory was refused. After any error nothing has changed
+-- the page of the open main frame took the command; or it refused it with its first fault; or no main frame is open; or the frame has as many commands as it may; or memory was refused. After any error nothing has changed
 abbrev pub Edits : LiveModel → Command → LiveModel → Result ⊤ MainFault → Type 0
 Edits old c new (Ok u) = (frame : OpenModel) × (old.open_frame ≡ Some frame) × Accepts frame.page c × (new ≡ record old { open_frame = Some (edited frame c) })
 Edits old c new (Err (fault.Refused why)) = (frame : OpenModel) × (old.open_frame ≡ Some frame) × Refuses frame.page c why × (new ≡ old)
 Edits old c new (Err fault.NotNow) = (old.open_frame ≡ None) × (new ≡ old)
-Edits old c new (Err fault.OutOfRange) = (command_in_range 2 c ≡ false) × (new ≡ old)
 Edits old c new (Err fault.Worn) = (frame : OpenModel) × (old.open_frame ≡ Some frame) × (4294967295 ≤ length frame.commands) × (new ≡ old)
 Edits old c new (Err (fault.Memory e)) = new ≡ old
 

@@ -8,7 +8,7 @@
 //! they come. So all that the model says of a run holds of what a host sees, whatever comes later.
 #![tactic(auto)]
 
-mod command_ranges;
+mod command_numbers;
 mod fault;
 mod frames;
 mod inputs;

@@ -8,8 +8,6 @@ use std::alloc::AllocError;
 pub enum MainFault {
     /// It may not be done now: no main frame is in flight, or none is open.
     NotNow,
-    /// A number of the command is out of its range.
-    OutOfRange,
     /// The main frame has as many commands as it may have, 2^32 - 1.
     Worn,
     /// The page refuses the command, and this is its first fault.

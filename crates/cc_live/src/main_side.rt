@@ -8,7 +8,7 @@ ghost use Rattle.impl_log.specs.Runs.{past};
 ghost use Rattle.cc_live.specs.MainSide.{Opens, OpensPage, Edits, Ends, Answers, AnswersBy, IsMade, Makes, MakesFrame, told_run};
 ghost use Rattle.cc_live.specs.Lives.{OpenModel};
 
-use crate::command_ranges::is_in_range;
+use crate::command_numbers::are_in_range;
 use crate::live::Live;
 use crate::main_edits::{edit_frame, made_of, opened_with};
 use crate::main_fault::{Ended, MainFault};
@@ -70,17 +70,14 @@ impl Live {
     }
 
     /// Applies a command to the page of the open main frame. `Refused` comes with the first fault that the command has
-    /// in that page, `OutOfRange` if a number of it does not fit the format, `NotNow` if no main frame is open, `Worn`
-    /// after 2^32 - 1 commands. An error leaves all as it was.
+    /// in that page, `NotNow` if no main frame is open, `Worn` after 2^32 - 1 commands. An error leaves all as it was.
     pub fn edit(&mut self, command: Command) -> Result<(), MainFault>
         ensures { Edits self.old command self.new result }
     {
-        if !is_in_range(&command) {
-            return Err(MainFault::OutOfRange);
-        }
         if self.open_frame.is_none() {
             return Err(MainFault::NotNow);
         }
+        are_in_range(&command);
         self.edit_open(command)
     }
 
