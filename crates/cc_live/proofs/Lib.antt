@@ -3,3 +3,4 @@ pub mod ToldRuns
 pub mod MainSides
 pub mod RightPictures
 pub mod MainEnds
+pub mod StandingScrollers

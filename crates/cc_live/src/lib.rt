@@ -19,6 +19,7 @@ mod main_fault;
 mod main_side;
 mod open_frame;
 mod settings;
+mod standing;
 
 pub use fault::LiveFault;
 pub use jobs::{Made, Ticket};
