@@ -1,4 +1,5 @@
 pub mod Lives
 pub mod Calls
 pub mod MainSide
+pub mod Surfaces
 pub mod inner
