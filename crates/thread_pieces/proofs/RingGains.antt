@@ -1,5 +1,5 @@
 -- Fronts and appends one after the other.
-use Rattle.std.proofs.Common.{◌≡◌, inl, inr, arith, ◌≤◌, ℕ, List, [], ◌++◌, take, drop, Option, Some, None, Result, Ok, Err, refl, ap, sym, subst, ◌∙◌, append_assoc}
+use Rattle.std.proofs.Common.{◌≡◌, inl, inr, arith, ◌≤◌, ℕ, List, [], ◌++◌, take, drop, Option, Some, None, Result, Ok, Err, ap, sym, subst, ◌∙◌, append_assoc}
 use Rattle.std.specs.Io.KnownBytes.{Appends}
 use Rattle.std.specs.Global.{Vec}
 use Rattle.std.proofs.lemmas.List.{take-append-drop}
@@ -67,12 +67,6 @@ pub puts_add : {X : Type 0} (x : X) (put : Result X PutFault) (old new : Option 
 puts_add x (Ok y) old new bytes put = λ first done given. appends_then first old new done bytes given put
 puts_add x (Err fault) old new bytes put = λ first done given. front_after first old new done bytes given put
 
--- the same, where nothing was refused before
-pub puts_on : {X : Type 0} (x : X) (state put : Result X PutFault) (old new : Option (List ℕ)) (bytes : List ℕ) → state ≡ Ok x → PutsAll old new bytes put → AddsBytes state put old new bytes
-puts_on {X = X} x state put old new bytes is puts =
-    let P : Result X PutFault → Type 0 = λ before. AddsBytes before put old new bytes in
-    subst P (sym is) (puts_add x put old new bytes puts)
-
 -- a count that rose has risen from any earlier one
 rose_from : (count old new : ℕ) → count ≤ old → Rose old new → Rose count new
 rose_from count old new few (inl less) = inl (omega (arith, few, less))
@@ -84,11 +78,6 @@ put_blames x (Ok y) old new grows cause = λ count few rose. tt
 put_blames x (Err put_fault.Failed) old new grows cause = λ count few rose. rose_from count old new few cause
 put_blames x (Err (put_fault.Memory _)) old new grows cause = λ count few rose. tt
 
--- where no more is put, what was gained before is a prefix
-pub wants : {X : Type 0} (state : Result X PutFault) (old : Option (List ℕ)) (bytes : List ℕ) (first : Option (List ℕ)) (done : List ℕ) → PutsAll first old done state → GainsPrefix first old (done ++ bytes)
-wants (Ok x) old bytes first done given = (done, bytes, refl, given)
-wants (Err fault) old bytes first done given = front_more first old done bytes given
-
 -- what was served, and then what was taken more
 pub served_on : {X : Type 0} (state answer : Result X PutFault) (old mid new : Option (List ℕ)) (before between after : List ℕ) → Served state old mid before between → Takes state answer mid new between after → Served answer old new before after
 served_on state answer old mid new before between after served takes =
@@ -98,11 +87,6 @@ served_on state answer old mid new before between after served takes =
 pub adds_both : {X : Type 0} (one two three : Result X PutFault) (old mid new : Option (List ℕ)) (done more all : List ℕ) → done ++ more ≡ all → AddsBytes one two old mid done → AddsBytes two three mid new more → AddsBytes one three old new all
 adds_both one two three old mid new done more all parts adds then = λ first before given.
     puts_same first new ((before ++ done) ++ more) (before ++ all) three (append_assoc before done more ∙ ap (λ bytes. before ++ bytes) parts) (then first (before ++ done) (adds first before given))
-
--- a step adds the same bytes, however they are told
-pub adds_same : {X : Type 0} (one two : Result X PutFault) (old new : Option (List ℕ)) (bytes all : List ℕ) → bytes ≡ all → AddsBytes one two old new bytes → AddsBytes one two old new all
-adds_same one two old new bytes all same adds = λ first before given.
-    puts_same first new (before ++ bytes) (before ++ all) two (ap (λ more. before ++ more) same) (adds first before given)
 
 -- a stop is kept by a step more
 pub stops_on : {X Y : Type 0} (one two three : Result X PutFault) (old mid new : Y) → Stops one two old mid → Stops two three mid new → Stops one three old new

@@ -1,4 +1,5 @@
 pub mod Answers
+pub mod Puts
 pub mod Ring
 pub mod Scenes
 pub mod Shots

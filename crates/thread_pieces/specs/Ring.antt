@@ -48,6 +48,15 @@ OneRing s p = ring_filled s ≡ ring_emptied p
 abbrev pub SameSink : RingSink → RingSink → Type 0
 SameSink old new = ring_filled new ≡ ring_filled old
 
+-- pieces and lines went on towards the ring, and nothing else happened
+pub record OnlyMoves (old new : RingSink) : Type 0 where
+  -- it still fills the same ring
+  pub ring : SameSink old new
+  -- what was put is the same
+  pub bytes : whole new ≡ whole old
+  -- no put was refused
+  pub refused : new.refused ≡ old.refused
+
 -- the presenter's ring is still the same
 abbrev pub SamePresenter : Presenter → Presenter → Type 0
 SamePresenter old new = ring_emptied new ≡ ring_emptied old

@@ -6,7 +6,7 @@ ghost use Rattle.byte_io.specs.Pieces.{NotFailed, PutAppends, PutCause};
 ghost use Rattle.byte_io.specs.declared.writing.PutFault.TheVariants.{Memory};
 ghost use Rattle.thread_pieces.specs.Scenes.{scene_image};
 ghost use Rattle.thread_pieces.specs.Shots.{shown};
-ghost use Rattle.thread_pieces.specs.Ring.{HasMovedAll, HasMovedKept, SameSink, ring_filled, whole};
+ghost use Rattle.thread_pieces.specs.Ring.{HasMovedAll, HasMovedKept, OnlyMoves, SameSink, ring_filled, whole};
 
 use crate::ends::{Label, RingSink};
 use crate::limits::GATHERED_LINES;
@@ -20,11 +20,9 @@ use viz_scene::Scene;
 impl RingSink {
     /// Moves kept pieces into the ring, oldest first, as far as there is a place, and rings for each.
     fn move_on(&mut self)
-        ensures ring { SameSink self.old self.new }
-        ensures bytes { whole self.new ≡ whole self.old }
+        ensures moves { OnlyMoves self.old self.new }
         ensures lines { self.new.lines ≡ self.old.lines }
         ensures moved { HasMovedKept self.new }
-        ensures refused { self.new.refused ≡ self.old.refused }
     {
         while !self.producer.is_full() {
             let Some(piece) = self.kept.pop_front() else {
@@ -75,10 +73,8 @@ impl RingSink {
 
     // Moves the lines that were gathered into the ring as a piece, if nothing is kept and there is a place.
     fn move_lines(&mut self)
-        ensures ring { SameSink self.old self.new }
-        ensures bytes { whole self.new ≡ whole self.old }
+        ensures moves { OnlyMoves self.old self.new }
         ensures moved { HasMovedKept self.old → HasMovedAll self.new }
-        ensures refused { self.new.refused ≡ self.old.refused }
     {
         if self.lines.is_empty() || !self.has_place() {
             return;
@@ -89,10 +85,8 @@ impl RingSink {
 
     // Moves all on, as far as there is a place.
     fn move_all(&mut self)
-        ensures ring { SameSink self.old self.new }
-        ensures bytes { whole self.new ≡ whole self.old }
+        ensures moves { OnlyMoves self.old self.new }
         ensures moved { HasMovedAll self.new }
-        ensures refused { self.new.refused ≡ self.old.refused }
     {
         self.move_on();
         self.move_lines();
@@ -149,10 +143,8 @@ impl RingSink {
     // Moves kept pieces on, and waits while more bytes wait or more pieces are kept than may, and somebody takes them.
     // Lines are moved on only if it waits.
     fn wait_until<R: Wait>(&mut self, rt: &R, bytes: u64, pieces: usize)
-        ensures ring { SameSink self.old self.new }
-        ensures bytes { whole self.new ≡ whole self.old }
+        ensures moves { OnlyMoves self.old self.new }
         ensures moved { HasMovedKept self.new }
-        ensures refused { self.new.refused ≡ self.old.refused }
     {
         for _ in rt.forever() {
             // Read before the look: what is written later rings again.

@@ -45,6 +45,7 @@ ghost use Rattle.std.specs.Thread.{IsSync};
 ghost use Rattle.thread_pieces.specs.Scenes.{image_if};
 ghost use Rattle.thread_pieces.specs.Shots.{all_due, all_made, due_of, made_of, shown};
 ghost use Rattle.byte_io.specs.Pieces.{PutsAll, WriteCause};
+ghost use Rattle.thread_pieces.specs.Puts.{PutsBytes};
 
 use crate::scene_painter::ScenePainter;
 use crate::shot::Shot;
@@ -152,11 +153,7 @@ impl<P: ScenePainter> Hand<P> {
     // Puts what it made.
     #[tactic(auto, using(byte_io::proofs::Puts::piece_stops, byte_io::proofs::Puts::puts_piece, byte_io::proofs::Puts::piece_cause, crate::proofs::Gains::gains_longer, crate::proofs::Gains::puts_both))]
     fn put<K: Sink>(&self, out: &mut K) -> Result<(), PutFault>
-        ensures bytes { PutsAll (K.held out.old) (K.held out.new) (made_of P.rows self.now) result }
-        ensures grows { K.faults out.old ≤ K.faults out.new }
-        ensures refusals { K.refusals out.old ≤ K.refusals out.new }
-        ensures cause { WriteCause (K.faults out.old) (K.faults out.new) result }
-        ensures place { K.place out.new ≡ K.place out.old }
+        ensures { PutsBytes K.Sink out.old out.new (made_of P.rows self.now) result }
     {
         if !self.waits {
             return out.put(self.made.as_slice());
@@ -175,11 +172,7 @@ impl<P: ScenePainter> Hand<P> {
         parts: usize,
         out: &mut K,
     ) -> Result<(), PutFault>
-        ensures bytes { PutsAll (K.held out.old) (K.held out.new) (shown shot) result }
-        ensures grows { K.faults out.old ≤ K.faults out.new }
-        ensures refusals { K.refusals out.old ≤ K.refusals out.new }
-        ensures cause { WriteCause (K.faults out.old) (K.faults out.new) result }
-        ensures place { K.place out.new ≡ K.place out.old }
+        ensures { PutsBytes K.Sink out.old out.new (shown shot) result }
     {
         self.clear();
         match self.paint(rt, shot, parts) {
@@ -195,11 +188,7 @@ impl<P: ScenePainter> Hand<P> {
         parts: usize,
         out: &mut K,
     ) -> Result<(), PutFault>
-        ensures bytes { PutsAll (K.held out.old) (K.held out.new) (due_of self.old) result }
-        ensures grows { K.faults out.old ≤ K.faults out.new }
-        ensures refusals { K.refusals out.old ≤ K.refusals out.new }
-        ensures cause { WriteCause (K.faults out.old) (K.faults out.new) result }
-        ensures place { K.place out.new ≡ K.place out.old }
+        ensures { PutsBytes K.Sink out.old out.new (due_of self.old) result }
     {
         let none = Vec::new(self.alloc);
         let mut queue = mem::replace(&mut self.due, none).into_iter();
@@ -271,11 +260,7 @@ fn work_halves<R: Threads + Sync, P: ScenePainter>(
 
 // Puts what the hands made, in order.
 fn put_each<K: Sink, P: ScenePainter>(hands: &[Hand<P>], out: &mut K) -> Result<(), PutFault>
-    ensures bytes { PutsAll (K.held out.old) (K.held out.new) (all_made P.rows hands.now) result }
-    ensures grows { K.faults out.old ≤ K.faults out.new }
-    ensures refusals { K.refusals out.old ≤ K.refusals out.new }
-    ensures cause { WriteCause (K.faults out.old) (K.faults out.new) result }
-    ensures place { K.place out.new ≡ K.place out.old }
+    ensures { PutsBytes K.Sink out.old out.new (all_made P.rows hands.now) result }
 {
     for hand in hands {
         if let Err(fault) = hand.put(out) {
@@ -334,11 +319,7 @@ fn work_beside<R: Threads + Sync, K: Sink, P: ScenePainter>(
 ) -> (Result<(), AllocError>, Result<(), PutFault>)
     requires { IsSync R.row }
     ensures worked { OnOk result.0 (all_made P.rows others.new ≡ all_due others.old) }
-    ensures bytes { PutsAll (K.held out.old) (K.held out.new) (due_of first.old) result.1 }
-    ensures grows { K.faults out.old ≤ K.faults out.new }
-    ensures refusals { K.refusals out.old ≤ K.refusals out.new }
-    ensures cause { WriteCause (K.faults out.old) (K.faults out.new) result.1 }
-    ensures place { K.place out.new ≡ K.place out.old }
+    ensures put { PutsBytes K.Sink out.old out.new (due_of first.old) result.1 }
 {
     join_mut(
         rt,
@@ -359,11 +340,7 @@ fn put_beside<R: Threads + Sync, K: Sink, P: ScenePainter>(
     out: &mut K,
 ) -> Result<(), PutFault>
     requires { IsSync R.row }
-    ensures bytes { PutsAll (K.held out.old) (K.held out.new) (due_of first.old ++ all_due others.old) result }
-    ensures grows { K.faults out.old ≤ K.faults out.new }
-    ensures refusals { K.refusals out.old ≤ K.refusals out.new }
-    ensures cause { WriteCause (K.faults out.old) (K.faults out.new) result }
-    ensures place { K.place out.new ≡ K.place out.old }
+    ensures { PutsBytes K.Sink out.old out.new (due_of first.old ++ all_due others.old) result }
 {
     let (worked, put) = work_beside(rt, first, others, parts, out);
     put_others(put, worked, others, out)
@@ -379,11 +356,7 @@ pub(crate) fn put_hands<R: Threads + Sync, K: Sink, P: ScenePainter>(
     parts: usize,
     out: &mut K,
 ) -> Result<(), PutFault>
-    ensures bytes { PutsAll (K.held out.old) (K.held out.new) (all_due hands.old) result }
-    ensures grows { K.faults out.old ≤ K.faults out.new }
-    ensures refusals { K.refusals out.old ≤ K.refusals out.new }
-    ensures cause { WriteCause (K.faults out.old) (K.faults out.new) result }
-    ensures place { K.place out.new ≡ K.place out.old }
+    ensures { PutsBytes K.Sink out.old out.new (all_due hands.old) result }
 {
     match hands {
         [] => Ok(()),

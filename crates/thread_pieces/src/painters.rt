@@ -3,6 +3,7 @@
 ghost use Rattle.std.specs.Prelude.{◌≡◌, ◌≤◌, ◌++◌, [], max, IfOk, OnOk};
 ghost use Rattle.thread_pieces.specs.Shots.{all_due, all_shown, due_of, shown};
 ghost use Rattle.byte_io.specs.Pieces.{PutsAll, WriteCause};
+ghost use Rattle.thread_pieces.specs.Puts.{PutsBytes};
 
 use crate::hands::{Hand, put_hands};
 use crate::scene_painter::ScenePainter;
@@ -134,11 +135,7 @@ impl<P: ScenePainter> Painters<P> {
 
     // Paints what was dealt, and puts it.
     fn put_dealt<R: Threads + Sync, K: Sink>(&mut self, rt: &R, out: &mut K) -> Result<(), PutFault>
-        ensures bytes { PutsAll (K.held out.old) (K.held out.new) (all_due self.old.hands.items) result }
-        ensures grows { K.faults out.old ≤ K.faults out.new }
-        ensures refusals { K.refusals out.old ≤ K.refusals out.new }
-        ensures cause { WriteCause (K.faults out.old) (K.faults out.new) result }
-        ensures place { K.place out.new ≡ K.place out.old }
+        ensures put { PutsBytes K.Sink out.old out.new (all_due self.old.hands.items) result }
         ensures most { self.new.most ≡ self.old.most }
     {
         let parts = (self.most / self.hands.len().max(1)).max(1);

@@ -4,7 +4,7 @@ ghost use Rattle.rtrb.specs.Ring.{known_items};
 ghost use Rattle.byte_io.specs.Pieces.{PutsAll};
 ghost use Rattle.thread_pieces.specs.Shots.{all_shown, shown};
 ghost use Rattle.thread_pieces.specs.Ring.{OneRing, bytes_taken, whole};
-ghost use Rattle.thread_pieces.specs.Answers.{AddsBytes, Blames, Stops};
+ghost use Rattle.thread_pieces.specs.Answers.{Blames, Presents, Stops};
 
 use crate::ends::{Presenter, RingSink};
 use crate::serving::{present, without_memory};
@@ -71,12 +71,7 @@ fn present_one<R: Threads + Sync, K: Sink, P: ScenePainter>(
     painters: &mut Painters<P>,
     out: &mut K,
 ) -> Result<(), PutFault>
-    ensures adds { AddsBytes served result (K.held out.old) (K.held out.new) (shown piece) }
-    ensures faults { K.faults out.old ≤ K.faults out.new }
-    ensures refusals { K.refusals out.old ≤ K.refusals out.new }
-    ensures stops { Stops served result out.old out.new }
-    ensures cause { Blames served result (K.faults out.old) (K.faults out.new) }
-    ensures place { K.place out.new ≡ K.place out.old }
+    ensures { Presents K.Sink served result out.old out.new (shown piece) }
 {
     match one(alloc, piece) {
         Ok(pieces) => present(rt, served, pieces, painters, out),
@@ -95,12 +90,7 @@ fn empty<R: Threads + Sync, K: Sink, P: ScenePainter>(
     out: &mut K,
 ) -> Result<(), PutFault>
     requires { count ≡ length (known_items consumer.old) }
-    ensures adds { AddsBytes served result (K.held out.old) (K.held out.new) (all_shown (known_items consumer.old)) }
-    ensures faults { K.faults out.old ≤ K.faults out.new }
-    ensures refusals { K.refusals out.old ≤ K.refusals out.new }
-    ensures stops { Stops served result out.old out.new }
-    ensures cause { Blames served result (K.faults out.old) (K.faults out.new) }
-    ensures place { K.place out.new ≡ K.place out.old }
+    ensures { Presents K.Sink served result out.old out.new (all_shown (known_items consumer.old)) }
 {
     let mut state = served;
     for _ in 0..count {
@@ -119,12 +109,7 @@ fn put_kept<R: Threads + Sync, K: Sink, P: ScenePainter>(
     painters: &mut Painters<P>,
     out: &mut K,
 ) -> Result<(), PutFault>
-    ensures adds { AddsBytes served result (K.held out.old) (K.held out.new) (all_shown kept.items) }
-    ensures faults { K.faults out.old ≤ K.faults out.new }
-    ensures refusals { K.refusals out.old ≤ K.refusals out.new }
-    ensures stops { Stops served result out.old out.new }
-    ensures cause { Blames served result (K.faults out.old) (K.faults out.new) }
-    ensures place { K.place out.new ≡ K.place out.old }
+    ensures { Presents K.Sink served result out.old out.new (all_shown kept.items) }
 {
     let mut state = served;
     for piece in kept {
@@ -134,18 +119,12 @@ fn put_kept<R: Threads + Sync, K: Sink, P: ScenePainter>(
 }
 
 /// Puts the bytes after the last piece.
-#[tactic(auto, using(byte_io::proofs::Puts::puts_piece, byte_io::proofs::Puts::piece_cause, crate::proofs::RingGains::puts_add, crate::proofs::RingGains::put_blames, crate::proofs::RingGains::wants))]
 fn put_lines<K: Sink>(
     lines: &[u8],
     served: Result<(), PutFault>,
     out: &mut K,
 ) -> Result<(), PutFault>
-    ensures adds { AddsBytes served result (K.held out.old) (K.held out.new) lines.now }
-    ensures faults { K.faults out.old ≤ K.faults out.new }
-    ensures refusals { K.refusals out.old ≤ K.refusals out.new }
-    ensures stops { Stops served result out.old out.new }
-    ensures cause { Blames served result (K.faults out.old) (K.faults out.new) }
-    ensures place { K.place out.new ≡ K.place out.old }
+    ensures { Presents K.Sink served result out.old out.new lines.now }
 {
     match served {
         Ok(()) => out.put(lines),

@@ -3,7 +3,7 @@ ghost use Rattle.std.specs.Prelude.{◌≡◌, ◌≤◌, ℕ, ◌++◌, List, [
 ghost use Rattle.byte_io.specs.Pieces.{WriteCause};
 ghost use Rattle.thread_pieces.specs.Shots.{all_shown, shown};
 ghost use Rattle.thread_pieces.specs.Ring.{EmptyBatch, SamePresenter, TakesBatch, bytes_taken, seen};
-ghost use Rattle.thread_pieces.specs.Answers.{AddsBytes, Blames, Served, Stops, Takes};
+ghost use Rattle.thread_pieces.specs.Answers.{Blames, Presents, Served, Takes};
 
 use crate::ends::Presenter;
 use crate::limits::{DEALT_PIECES, HELD_BYTES};
@@ -15,7 +15,6 @@ use std::sync::Wait;
 use std::thread::Threads;
 
 /// Paints and puts pieces, unless an earlier one was refused, and answers for both.
-#[tactic(auto, using(crate::proofs::RingGains::puts_add, crate::proofs::RingGains::put_blames, crate::proofs::RingGains::wants))]
 pub(crate) fn present<R: Threads + Sync, K: Sink, P: ScenePainter>(
     rt: &R,
     state: Result<(), PutFault>,
@@ -23,12 +22,7 @@ pub(crate) fn present<R: Threads + Sync, K: Sink, P: ScenePainter>(
     painters: &mut Painters<P>,
     out: &mut K,
 ) -> Result<(), PutFault>
-    ensures adds { AddsBytes state result (K.held out.old) (K.held out.new) (all_shown pieces.items) }
-    ensures faults { K.faults out.old ≤ K.faults out.new }
-    ensures refusals { K.refusals out.old ≤ K.refusals out.new }
-    ensures stops { Stops state result out.old out.new }
-    ensures cause { Blames state result (K.faults out.old) (K.faults out.new) }
-    ensures place { K.place out.new ≡ K.place out.old }
+    ensures { Presents K.Sink state result out.old out.new (all_shown pieces.items) }
 {
     match state {
         Ok(()) => painters.put(rt, pieces, out),
@@ -37,16 +31,13 @@ pub(crate) fn present<R: Threads + Sync, K: Sink, P: ScenePainter>(
 }
 
 /// Memory ran out, unless an earlier piece was refused.
-#[tactic(auto, using(crate::proofs::RingGains::wants))]
 pub(crate) fn without_memory<K: Sink>(
     state: Result<(), PutFault>,
     refused: AllocError,
     out: &mut K,
 ) -> Result<(), PutFault>
-    ensures adds { (bytes : List ℕ) → AddsBytes state result (K.held out.old) (K.held out.new) bytes }
+    ensures steps { (bytes : List ℕ) → Presents K.Sink state result out.old out.new bytes }
     ensures same { out.new ≡ out.old }
-    ensures stops { Stops state result out.old out.new }
-    ensures cause { Blames state result (K.faults out.old) (K.faults out.new) }
 {
     match state {
         Ok(()) => Err(PutFault::Memory(refused)),

@@ -6,10 +6,18 @@ use Rattle.thread_pieces.specs.Shots.{all_made, made_of}
 use Rattle.thread_pieces.proofs.Parts.{cut_at, taken_more}
 use Rattle.thread_pieces.proofs.hands.put_each.Goals as goal
 
-pub returns-in-Err-clause-bytes : goal.returns-in-Err-clause-bytes
-returns-in-Err-clause-bytes g c =
-    gains_front _ _ _ _ (made_of g.P.ScenePainter.rows c.hand-item.result) _ _ c.loop-hand.invariant.gained (search rules)
-    (cut_at (made_of g.P.ScenePainter.rows) c.args.hands.now c.loop-hand.hand-index c.hand-item.result (search rules) c.hand-item.is)
+pub returns-in-Err : goal.returns-in-Err
+returns-in-Err g c =
+    let before = c.loop-hand.invariant in
+    let put = c.put.ensures in
+    record {
+      bytes = gains_front _ _ _ _ (made_of g.P.ScenePainter.rows c.hand-item.result) _ _ c.loop-hand.invariant.gained (search rules)
+          (cut_at (made_of g.P.ScenePainter.rows) c.args.hands.now c.loop-hand.hand-index c.hand-item.result (search rules) c.hand-item.is);
+      grows = omega (arith, before.grows, put.grows);
+      refusals = omega (arith, before.refusals, put.refusals);
+      cause = search rules;
+      place = put.place ∙ before.place;
+    }
 
 pub loop-hand-preserved : goal.loop-hand-preserved
 loop-hand-preserved g c =

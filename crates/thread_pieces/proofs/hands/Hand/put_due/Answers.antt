@@ -1,5 +1,5 @@
 -- A piece more was put, or a prefix of it.
-use Rattle.std.proofs.Common.{◌≡◌, List, ◌∷◌, ◌++◌, length, ap, ◌∙◌, arith}
+use Rattle.std.proofs.Common.{◌≡◌, List, ◌∷◌, ◌++◌, length, ap, ◌∙◌, arith, rules}
 use Rattle.std.specs.Vec.Iter.{into_iter_items}
 use Rattle.thread_pieces.specs.declared.shot.Shot.{Shot}
 use Rattle.thread_pieces.specs.Shots.{all_shown, shown}
@@ -7,12 +7,19 @@ use Rattle.thread_pieces.proofs.Gains.{gains_both, gains_front}
 use Rattle.thread_pieces.proofs.Parts.{next_put}
 use Rattle.thread_pieces.proofs.hands.Hand.put_due.Goals as goal
 
-pub returns-in-Err-clause-bytes : goal.returns-in-Err-clause-bytes
-returns-in-Err-clause-bytes g c =
+pub returns-in-Err : goal.returns-in-Err
+returns-in-Err g c =
     let part = c.loop-shot.invariant.part in
     let left : List Shot = into_iter_items c.next.new.self in
     let first : into_iter_items c.loop-shot.queue ≡ c.in-Some.shot ∷ left = c.in-Some.ensures.items in
-    gains_front _ _ _ part.0 (shown c.in-Some.shot) (all_shown left) _ part.2 c.in-Err.ensures.bytes (next_put shown _ left c.in-Some.shot part.0 _ first part.1)
+    let put = c.put_one.ensures in
+    record {
+      bytes = gains_front _ _ _ part.0 (shown c.in-Some.shot) (all_shown left) _ part.2 c.in-Err.ensures.bytes (next_put shown _ left c.in-Some.shot part.0 _ first part.1);
+      grows = omega (arith, put.grows, c.loop-shot.invariant.grows);
+      refusals = omega (arith, put.refusals, c.loop-shot.invariant.refusals);
+      cause = search rules;
+      place = put.place ∙ c.loop-shot.invariant.place;
+    }
 
 pub loop-shot-preserved : goal.loop-shot-preserved
 loop-shot-preserved g c =
