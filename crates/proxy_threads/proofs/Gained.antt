@@ -1,5 +1,5 @@
 -- What a sink gained by a turn.
-use Rattle.std.proofs.Common.{◌≡◌, ℕ, List, [], ◌++◌, append-nil, sym, subst}
+use Rattle.std.proofs.Common.{◌≡◌, ◌≤◌, ℕ, inl, inr, List, [], ◌++◌, append-nil, sym, subst, arith}
 use Rattle.std.specs.Prelude.{Option, Err}
 use Rattle.std.specs.Io.KnownBytes.{Appends}
 use Rattle.byte_io.specs.Pieces.{GainsPrefix, PutCause}
@@ -28,6 +28,15 @@ wrote_refused (put_fault.Memory _) old new a b gains = gains_longer old new a b 
 pub refused_cause : (X : Type 0) (f g r s : ℕ) (z : PutFault) → PutCause {X = X} f g r s (Err z) → FaultCause f g (answer_at z)
 refused_cause X f g r s put_fault.Failed cause = cause
 refused_cause X f g r s (put_fault.Memory _) cause = tt
+
+-- a fault that has its cause has it from any earlier count on
+pub cause_later : (t : Turned) (old mid new : ℕ) → old ≤ mid → FaultCause mid new t → FaultCause old new t
+cause_later turned.WriteFault old mid new few (inl less) = inl (omega (arith, few, less))
+cause_later turned.WriteFault old mid new few (inr last) = inr last
+cause_later turned.Went old mid new few cause = tt
+cause_later turned.Blocked old mid new few cause = tt
+cause_later turned.Ended old mid new few cause = tt
+cause_later turned.Memory old mid new few cause = tt
 
 -- a sink that holds what it held has gained nothing
 pub appends_none : (old new : Option (List ℕ)) → new ≡ old → Appends old new []

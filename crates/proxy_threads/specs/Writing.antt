@@ -3,6 +3,7 @@ use Rattle.std.specs.Prelude.{◌≡◌, ◌≤◌, ℕ, Bool, true, List, lengt
 use Rattle.std.specs.Io.KnownBytes.{Appends}
 use Rattle.byte_io.specs.Counts.{Rose}
 use Rattle.byte_io.specs.Pieces.{GainsPrefix}
+use Rattle.byte_io.specs.declared.writing.Sink as sink
 use Rattle.atomic_table.specs.Seated.{TableId}
 use Rattle.thread_lock.specs.Lists.{entries_by}
 use Rattle.model_history.specs.declared.event.Event.{Event}
@@ -43,6 +44,17 @@ HasWrittenAll q written _ = HasWritten q written × (written ≡ length q.seen)
 abbrev pub FaultCause : ℕ → ℕ → Turned → Type 0
 FaultCause old new turned.WriteFault = Rose old new
 FaultCause old new _ = ⊤
+
+-- some bytes were put into the sink, as the answer of a turn tells; by which it came from the old to the new one
+pub record WritesBytes {K P : Type 0} (k : sink.Ghosts K P) (old new : K) (whole : List ℕ) (t : Turned) : Type 0 where
+  -- it gained them, or if the actor gave up, a prefix of them
+  pub bytes : Wrote (k.held old) (k.held new) whole t
+  -- its count of faults never falls
+  pub grows : k.faults old ≤ k.faults new
+  -- the turn answers that the sink failed only if that count rose
+  pub cause : FaultCause (k.faults old) (k.faults new) t
+  -- it is still the same sink
+  pub place : k.place new ≡ k.place old
 
 -- a turn of the compositor: which run its pass saw last, why it answers this, and what it wrote of what it saw
 pub record CompTurn (p q : Seat) (written after : ℕ) (old new : Option (List ℕ)) (t : Turned) : Type 0 where

@@ -4,7 +4,7 @@ ghost use Rattle.std.specs.Prelude.{◌≡◌, ◌≤◌, ◌++◌, []};
 ghost use Rattle.std.specs.Io.KnownBytes.{Appends};
 ghost use Rattle.thread_pieces.specs.Scenes.{scene_image};
 ghost use Rattle.proxy_threads.specs.declared.turned.Turned.TheVariants.{Blocked};
-ghost use Rattle.proxy_threads.specs.Writing.{FaultCause, Wrote};
+ghost use Rattle.proxy_threads.specs.Writing.{WritesBytes};
 ghost use Rattle.proxy_threads.specs.inner.Steps.{Answers, answer_at, image_in, text_for, GoesOrGivesUp};
 
 use crate::playing::Played;
@@ -25,11 +25,8 @@ fn refused(fault: PutFault) -> Turned
 
 // Puts the image of a scene.
 fn put_image<K: SceneSink>(out: &mut K, scene: Scene) -> Turned
-    ensures bytes { Wrote (K.held out.old) (K.held out.new) (scene_image scene) result }
+    ensures put { WritesBytes K.Sink out.old out.new (scene_image scene) result }
     ensures answer { GoesOrGivesUp result }
-    ensures grows { K.faults out.old ≤ K.faults out.new }
-    ensures cause { FaultCause (K.faults out.old) (K.faults out.new) result }
-    ensures place { K.place out.new ≡ K.place out.old }
 {
     match out.put_scene(scene) {
         Ok(()) => Turned::Went,
@@ -61,11 +58,8 @@ fn wait<K: SceneSink>(out: &mut K) -> Turned
 
 // Puts the image of what was drawn, if anything was, and answers for what was played.
 fn show<K: SceneSink>(out: &mut K, played: Played) -> Turned
-    ensures bytes { Wrote (K.held out.old) (K.held out.new) (image_in played) result }
+    ensures put { WritesBytes K.Sink out.old out.new (image_in played) result }
     ensures answer { Answers played result }
-    ensures grows { K.faults out.old ≤ K.faults out.new }
-    ensures cause { FaultCause (K.faults out.old) (K.faults out.new) result }
-    ensures place { K.place out.new ≡ K.place out.old }
 {
     match played {
         Played::Ended => Turned::Ended,
@@ -78,11 +72,8 @@ fn show<K: SceneSink>(out: &mut K, played: Played) -> Turned
 
 // Puts the lines, and then the image of what was drawn, if anything was, and answers for what was played.
 fn put_played<K: SceneSink>(out: &mut K, lines: &[u8], played: Played) -> Turned
-    ensures bytes { Wrote (K.held out.old) (K.held out.new) (lines.now ++ image_in played) result }
+    ensures put { WritesBytes K.Sink out.old out.new (lines.now ++ image_in played) result }
     ensures answer { Answers played result }
-    ensures grows { K.faults out.old ≤ K.faults out.new }
-    ensures cause { FaultCause (K.faults out.old) (K.faults out.new) result }
-    ensures place { K.place out.new ≡ K.place out.old }
 {
     match out.put(lines) {
         Ok(()) => show(out, played),
@@ -93,11 +84,8 @@ fn put_played<K: SceneSink>(out: &mut K, lines: &[u8], played: Played) -> Turned
 /// Puts the lines, and then the image of what was drawn, if anything was, and answers for what was played.
 /// If memory was refused before, nothing is put.
 pub(crate) fn write<K: SceneSink>(out: &mut K, lines: &[u8], played: Played) -> Turned
-    ensures bytes { Wrote (K.held out.old) (K.held out.new) (text_for played lines.now) result }
+    ensures put { WritesBytes K.Sink out.old out.new (text_for played lines.now) result }
     ensures answer { Answers played result }
-    ensures grows { K.faults out.old ≤ K.faults out.new }
-    ensures cause { FaultCause (K.faults out.old) (K.faults out.new) result }
-    ensures place { K.place out.new ≡ K.place out.old }
 {
     if let Played::Memory = played {
         Turned::Memory
