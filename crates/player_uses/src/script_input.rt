@@ -67,8 +67,8 @@ pub(crate) fn accept(alloc: Global, parts: ScriptParts) -> Result<Arc<Script>, O
     }
 }
 
-/// The script in a text of at most [`SCRIPT_LIMIT`] bytes, to be shared, or why there is none: `Json` if the bytes are no JSON text,
-/// `Shape` if their value is no script, `Script` if a command of it is refused, and `Memory`.
+/// The script in a text of at most [`SCRIPT_LIMIT`] bytes, to be shared, or why there is none: `Json` if the bytes are
+/// no JSON text, `Shape` if their value is no script, `Script` if a command of it is refused, and `Memory`.
 #[tactic(auto, using(crate::proofs::AskedShots::script_in))]
 pub fn script_in(alloc: Global, bytes: &[u8]) -> Result<Arc<Script>, Outcome>
     requires { length bytes.now ≤ script_limit }
