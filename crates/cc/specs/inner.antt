@@ -1,3 +1,4 @@
 pub mod Edits
 pub mod Flags
 pub mod Marks
+pub mod Wants

@@ -7,6 +7,7 @@ ghost use Rattle.page_properties.specs.OffsetMap.{offset_at, AreOffsets};
 ghost use Rattle.page_layers.specs.Layers.{parts_of, has_id};
 ghost use Rattle.tile_visible.specs.Visible as visible;
 ghost use Rattle.viz_quads.specs.ShownTiles.{tile_of, missing_keys, IsImageOf, AreShownTiles};
+ghost use Rattle.cc.specs.inner.Wants.{WantsImage};
 ghost use Rattle.cc.specs.KeptTiles.{place_of, IsImageAt, HaveTheirImages, IsKeptFor, AreKeptFor, IsCurrent, AreCurrent, AreCached};
 
 use crate::kept_tile::KeptTile;
@@ -193,11 +194,7 @@ fn made_and_kept(
     layer: &Layer,
     wanted: Wanted,
 ) -> Result<Arc<TileImage>, AllocError>
-    requires found { find (has_id layer.now.id) pages.active.now.layers ≡ Some (parts_of layer.now) }
-    requires sized { IsLayerSide layer.now.w × IsLayerSide layer.now.h }
-    requires there { IsTrue (has (visible.grid_of pages.active.now (parts_of layer.now)) wanted.place) }
-    requires cached { AreCached pages.active.now pages.main.now kept.old.items }
-    requires same { wanted.draw.is_committed ≡ true → pages.active.now ≡ pages.main.now }
+    requires { WantsImage pages.active.now pages.main.now wanted.draw.is_committed (parts_of layer.now) wanted.place kept.old.items }
     ensures image { IfOk result (λ image. IsImageAt pages.entry.active.now layer.now.id wanted.place image.value) }
     ensures cached { AreCached pages.entry.active.now pages.entry.main.now kept.new.items }
 {
@@ -224,11 +221,7 @@ fn image_for(
     layer: &Layer,
     wanted: Wanted,
 ) -> Result<Arc<TileImage>, AllocError>
-    requires found { find (has_id layer.now.id) pages.active.now.layers ≡ Some (parts_of layer.now) }
-    requires sized { IsLayerSide layer.now.w × IsLayerSide layer.now.h }
-    requires there { IsTrue (has (visible.grid_of pages.active.now (parts_of layer.now)) wanted.place) }
-    requires cached { AreCached pages.active.now pages.main.now kept.old.items }
-    requires same { wanted.draw.is_committed ≡ true → pages.active.now ≡ pages.main.now }
+    requires { WantsImage pages.active.now pages.main.now wanted.draw.is_committed (parts_of layer.now) wanted.place kept.old.items }
     ensures image { IfOk result (λ image. IsImageAt pages.entry.active.now layer.now.id wanted.place image.value) }
     ensures cached { AreCached pages.entry.active.now pages.entry.main.now kept.new.items }
 {
