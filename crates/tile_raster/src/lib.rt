@@ -15,6 +15,7 @@ mod patches;
 mod picture_rows;
 mod pixels;
 mod spans;
+mod ways;
 
 pub use batch::run_all;
 pub use image::TileImage;

@@ -25,15 +25,16 @@
 //!    Each kept row is then drawn run by run: from a column on, the topmost opaque patch and those above it tell the
 //!    colour, and how many columns have it (`spans.rt`). Each pixel is written once, and what is hidden is never
 //!    blended.
-//! 3. Otherwise the kept rows are drawn item by item, from the lowest on, each over what is there (`draw.rt`).
+//! 3. Otherwise, and if so many patches lie above one another that it takes less time (`ways.rt`), the kept rows are
+//!    drawn item by item, from the lowest on, each over what is there (`draw.rt`).
 //! 4. The ends follow from the places.
 //!
 //! # Cost
 //!
 //! Memory: four bytes for each pixel of a kept row, and eight for each row of the rect if more than one is kept. A tile
 //! of flat rects keeps a few rows, however tall it is; under a bitmap each row is kept. Time: the items once for the
-//! marks; then for patches the pixels of the kept rows, each once; item by item the pixels of each item in each kept
-//! row. Memory is taken for the marks, the patches, the places and ends, and the rows; an error means that it ran out.
+//! marks; then for patches the pixels of the kept rows, each once, and in each of them each run times each patch; item
+//! by item the pixels of each item in each kept row. The lesser of the two is what patches cost. Memory is taken for the marks, the patches, the places and ends, and the rows; an error means that it ran out.
 //!
 //! # Limits
 //!
@@ -55,6 +56,7 @@ use crate::changes::{changing_patches, changing_rows};
 use crate::draw::draw_items;
 use crate::patches::{Patch, draw_patches, patches_of};
 use crate::pixels::width_of;
+use crate::ways::are_faster_as_items;
 use geom::Rect;
 use page_display_list::DisplayList;
 use std::alloc::{AllocError, Global};
@@ -81,10 +83,13 @@ pub(crate) fn kept_rows(
     ensures kept { IfOk result (λ rows. AreKept list.now rect rows.places.items rows.bytes.items) }
     ensures ends { IfOk result (λ rows. AreEnds (near rect.h) rows.places.items rows.ends.items) }
 {
-    match patches_of(alloc, list, rect)? {
-        Some(patches) => rows_of_patches(alloc, list, rect, patches.as_slice()),
-        None => rows_of_items(alloc, list, rect),
+    let Some(patches) = patches_of(alloc, list, rect)? else {
+        return rows_of_items(alloc, list, rect);
+    };
+    if are_faster_as_items(alloc, patches.as_slice(), rect)? {
+        return rows_of_items(alloc, list, rect);
     }
+    rows_of_patches(alloc, list, rect, patches.as_slice())
 }
 
 // The rows of what the list shows on the rect, if patches show it.
