@@ -17,6 +17,9 @@ use viz_scene::{Quad, Scene};
 //// How many numbers a mask has: those of the blocks of 64 rows, 129 in each row of them.
 const COUNT: usize = 1032;
 
+/// How many rows a block has.
+const ROWS_OF_BLOCK: i32 = 8;
+
 /// How many pixels a block has.
 const PIXELS_OF_BLOCK: i32 = 128;
 
@@ -92,8 +95,11 @@ impl Mask {
         self.highest
     }
 
-    // Whether a mask pays for the pass of this number.
-    fn is_deep(&self, number: usize) -> bool {
+    // Whether a mask pays for an area of the pass of this number. It hides whole blocks, of which a lower area has none.
+    fn is_deep(&self, number: usize, area: Rect) -> bool {
+        if area.h < ROWS_OF_BLOCK {
+            return false;
+        }
         match self.deep.get(number) {
             Some(deep) => *deep,
             None => false,
@@ -109,7 +115,7 @@ impl Mask {
         ensures numbers { AreNumbers (length quads.now) self.new.tops }
     {
         let highest = self.highest;
-        let deep = self.is_deep(passes.len());
+        let deep = self.is_deep(passes.len(), area);
         self.highest = marked(self.tops.as_mut_slice(), highest, deep, area, quads, passes);
     }
 
@@ -127,7 +133,7 @@ impl Mask {
         ensures marked { AreMarked area quads.now self.new.tops }
         ensures numbers { AreOpenNumbers (length quads.now) root.entry.mask.now.tops root.entry.number self.new.tops }
     {
-        let deep = self.is_deep(passes.len());
+        let deep = self.is_deep(passes.len(), area);
         self.highest = open_marked(self.tops.as_mut_slice(), root, deep, area, quads, passes);
     }
 

@@ -86,8 +86,8 @@ pub(crate) fn draw_scene(scene: &Scene, area: Rect, surfaces: &mut PassSurfaces)
         return;
     };
     let quads = root.quads.as_slice();
-    let last = last_group(quads, inner.len());
     surfaces.root_mask.mark(area, quads, &surfaces.passes);
+    let last = last_group(quads, inner.len(), surfaces.root_mask.highest());
     let root_group = QuadMask {
         mask: &surfaces.root_mask,
         number: last,

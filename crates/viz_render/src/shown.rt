@@ -8,14 +8,18 @@ ghost use Rattle.viz_render.specs.inner.Shown.{IsGroup, HaveNoGroup};
 use viz_scene::Quad;
 
 /// The number of the last group among some quads, counted from 1; 0 if there is none. There are surfaces for the
-/// given number of passes.
-pub(crate) fn last_group(quads: &[Quad], passes: usize) -> usize
+/// given number of passes. If the quads' mask hides none of them, as its highest number is 0, the groups are not looked
+/// for: the number is that of the last quad.
+pub(crate) fn last_group(quads: &[Quad], passes: usize, highest: usize) -> usize
     requires { All (CanBeDrawn passes) (quads_view quads.now) }
     ensures few { result ≤ length quads.now }
     ensures after { HaveNoGroup (quads_view (drop result quads.now)) }
 {
     if passes == 0 {
         return 0;
+    }
+    if highest == 0 {
+        return quads.len();
     }
     let mut number = quads.len();
     while number > 0 {
