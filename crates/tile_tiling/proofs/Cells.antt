@@ -22,6 +22,13 @@ use Rattle.tile_tiling.specs.inner.Writes.{in_run, WritesRow, WritesCells, Write
 pub row_behind : (w y r : ℕ) → y < r → y * w + w ≤ r * w
 row_behind w y r h = let k : w * (y + 1) ≤ w * r = mul-le-mul_left w (omega arith) in grind arith
 
+-- a row of the grid lies within its stamps
+pub row_inside : (g : Sides) (y wide n : ℕ) → y < tiles g.h g.tile → wide ≡ tiles g.w g.tile → n ≡ tiles g.w g.tile * tiles g.h g.tile → y * wide + wide ≤ n
+row_inside g y wide n lt e f =
+    let k : y * wide + wide ≤ tiles g.h g.tile * wide = row_behind wide y (tiles g.h g.tile) lt in
+    let m : n ≡ wide * tiles g.h g.tile = f ∙ ap (λ w. w * tiles g.h g.tile) (sym e) in
+    grind arith
+
 -- a cell is within a part of a row where it is in that row and in those columns
 cell_same : (w x y a b : ℕ) → (nat_le (y * w + a) (y * w + x) && nat_lt (y * w + x) (y * w + b)) ≡ (nat_le a x && nat_lt x b)
 cell_same w x y a b = grind (arith, nat_tests)
@@ -49,7 +56,7 @@ cell_by w x y a b r lx lb false false e f =
     let j : nat_eq y r ≡ true = grind (arith, nat_tests) in
     rw j (subst (λ z. (nat_le (z * w + a) (y * w + x) && nat_lt (y * w + x) (z * w + b)) ≡ (nat_le a x && nat_lt x b)) h (cell_same w x y a b))
 
-cell : (w x y a b r : ℕ) → x < w → b ≤ w
+pub cell : (w x y a b r : ℕ) → x < w → b ≤ w
     → (nat_le (r * w + a) (y * w + x) && nat_lt (y * w + x) (r * w + b)) ≡ (nat_eq y r && (nat_le a x && nat_lt x b))
 cell w x y a b r lx lb = cell_by w x y a b r lx lb (nat_lt y r) (nat_lt r y) refl refl
 
@@ -147,7 +154,7 @@ either true false s o = refl
 either false true s o = refl
 either false false s o = refl
 
-touched_more : (rs : List Rect) (i : ℕ) (q : Rect) → i < length rs → touched (take (i + 1) rs) q ≡ (touched (take i rs) q || meets q (get_or rs i empty_rect))
+pub touched_more : (rs : List Rect) (i : ℕ) (q : Rect) → i < length rs → touched (take (i + 1) rs) q ≡ (touched (take i rs) q || meets q (get_or rs i empty_rect))
 touched_more rs i q lt =
     ap (λ ws. touched ws q) (take_more rs i empty_rect lt)
     ∙ (list_any-append (λ s. meets s q) (take i rs) (get_or rs i empty_rect ∷ [])

@@ -13,6 +13,7 @@
 
 mod laws;
 mod stamps;
+mod sweep;
 mod tiling;
 
 pub use laws::carry_steps_the_stamps;

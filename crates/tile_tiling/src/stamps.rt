@@ -9,8 +9,18 @@ ghost use Rattle.tile_tiling.specs.Tiles.{key_of, index_of, IsWhole};
 ghost use Rattle.tile_tiling.specs.inner.Kept.{stamps_of, IsKept};
 ghost use Rattle.tile_tiling.specs.inner.Writes.{WritesPlaces, WritesCells, WritesRow, in_run};
 
+use crate::sweep::sweep_rects;
 use geom::{Grid, IndexRange, Place, Rect, TileKey};
 use std::alloc::{AllocError, Global};
+
+/// The least rects for which a sweep over the rows of places is thought of.
+const LEAST_RECTS: usize = 16;
+
+/// How many stamps are written in the time in which a sweep looks at one rect in one row.
+const WRITES_OF_LOOK: usize = 32;
+
+/// How many stamps are written in the time in which a sweep goes past one place.
+const WRITES_OF_STEP: usize = 8;
 
 // How many places the grid has.
 fn place_count(grid: Grid) -> usize
@@ -85,6 +95,45 @@ pub(crate) fn stamp_rects(stamps: &mut Vec<u32>, grid: Grid, rects: &[Rect], sta
     requires sound { All IsSound rects.now }
     ensures { WritesPlaces grid stamps.old.items stamps.new.items (λ p. touched rects.now (rect_of_place grid p)) stamp }
 {
+    if share_many(grid, rects) {
+        sweep_rects(stamps, grid, rects, stamp);
+    } else {
+        stamp_each(stamps, grid, rects, stamp);
+    }
+}
+
+// Whether rects touch so many places together that a sweep over the rows takes less time than the places of each rect.
+fn share_many(grid: Grid, rects: &[Rect]) -> bool
+    requires { All IsSound rects.now }
+{
+    if rects.len() < LEAST_RECTS {
+        return false;
+    }
+    let mut places = 0usize;
+    for rect in rects {
+        places = places.saturating_add(places_of(grid, rect));
+    }
+    let looks = rects.len().saturating_mul(grid.rows() as usize);
+    let steps = place_count(grid).saturating_mul(WRITES_OF_STEP);
+    places > looks.saturating_mul(WRITES_OF_LOOK).saturating_add(steps)
+}
+
+// How many places a rect touches.
+fn places_of(grid: Grid, rect: &Rect) -> usize
+    requires { IsSound rect.now }
+{
+    let columns = grid.columns_touching(*rect);
+    let rows = grid.rows_touching(*rect);
+    let across = (columns.end - columns.first) as usize;
+    across.saturating_mul((rows.end - rows.first) as usize)
+}
+
+// Writes the stamp at the places that each rect touches.
+fn stamp_each(stamps: &mut Vec<u32>, grid: Grid, rects: &[Rect], stamp: u32)
+    requires whole { IsWhole grid stamps.old.items }
+    requires sound { All IsSound rects.now }
+    ensures { WritesPlaces grid stamps.old.items stamps.new.items (λ p. touched rects.now (rect_of_place grid p)) stamp }
+{
     for rect in rects {
         stamp_rect(stamps, grid, rect, stamp);
     }
@@ -120,8 +169,8 @@ fn stamp_block(stamps: &mut Vec<u32>, wide: u32, columns: IndexRange, rows: Inde
     }
 }
 
-// Writes the stamp from one index on and below another.
-fn stamp_row(stamps: &mut Vec<u32>, from: usize, to: usize, stamp: u32)
+/// Writes the stamp from one index on and below another.
+pub(crate) fn stamp_row(stamps: &mut Vec<u32>, from: usize, to: usize, stamp: u32)
     requires ordered { from ≤ to }
     requires inside { to ≤ length stamps.old.items }
     ensures { WritesRow stamps.old.items stamps.new.items from to stamp }
