@@ -122,18 +122,18 @@ impl Core {
         self.log.script()
     }
 
-    /// The entries, the oldest first. Those since the input before the newest one are kept, and so is the newest
+    /// The entries, the oldest first. Those since the milestone before the newest one are kept, and so is the newest
     /// entry.
     pub fn history(&self) -> &KeptHistory
         ensures entries { result.now.entries ≡ self.now.entries }
-        ensures inputs { result.now.first ≤ forgettable (past self.now) }
+        ensures kept { result.now.first ≤ forgettable (past self.now) }
         ensures newest { result.now.first ≤ length self.now.entries - 1 }
     {
         self.log.history()
     }
 
-    /// Forgets the entries that came before the input before the newest one, once these are many. The run stays as it
-    /// is.
+    /// Forgets the entries that came before the milestone before the newest one, once these are many. The run stays as
+    /// it is.
     pub fn forget(&mut self)
         ensures { self.new ≡ self.old }
     {

@@ -8,7 +8,7 @@ use Rattle.model_history.specs.declared.event.Event.{Event}
 use Rattle.model_history.specs.declared.event.Event.TheVariants as event
 use Rattle.model_history.specs.declared.history.Entry.{Entry}
 use Rattle.model_history.specs.Scripts.{ScriptModel}
-use Rattle.model_history.specs.EventFields.{kind_of, actor_of, uses}
+use Rattle.model_history.specs.EventFields.{kind_of, actor_of}
 use Rattle.model_history.specs.Scans.{has_ended}
 use Rattle.model_history.specs.Tiles.{in_flight}
 use Rattle.model_history.specs.Accepted.{IsPlayable}
@@ -20,9 +20,9 @@ use Rattle.model_history.proofs.DueRows.{MayAsk, due_row}
 use Rattle.model_history.proofs.RangeBounds.{sent_few}
 use Rattle.model_history.proofs.UsedInputs.{uses_few}
 use Rattle.impl_log.specs.declared.progress.Progress.{Progress}
-use Rattle.impl_log.specs.declared.input_places.InputPlaces.{InputPlaces}
+use Rattle.impl_log.specs.declared.milestones.Milestones.{Milestones}
 use Rattle.impl_log.specs.Runs.{is_kept, is_plain_kind}
-use Rattle.impl_log.specs.Kept.{KeptEntries, before_input, forgettable}
+use Rattle.impl_log.specs.Kept.{KeptEntries, before_newest, forgettable, milestones}
 use Rattle.impl_log.specs.inner.Steps.{placed, stepped}
 use Rattle.impl_log.specs.inner.Logs.{IsLogOf, MayStep}
 use Rattle.impl_log.proofs.ShortRuns.{in_flight_few}
@@ -54,7 +54,7 @@ pub next_is : (s : ScriptModel) (n : ℕ) (h : List Entry) (a : ℕ) (e : Event)
 next_is s n h a e d actor within = let x = now_is s h (kind_of e) a e d in record { going = x.going; state = x.state; is_due = x.is_due; actor = actor; within = within }
 
 -- a log of which more is forgotten, or that has more room
-pub still_log : (s : ScriptModel) (n : ℕ) (p : Progress) (places : InputPlaces) (old new : KeptEntries) → IsLogOf s n (reverse old.entries) p old.spare places old.first
+pub still_log : (s : ScriptModel) (n : ℕ) (p : Progress) (places : Milestones) (old new : KeptEntries) → IsLogOf s n (reverse old.entries) p old.spare places old.first
     → new.entries ≡ old.entries → new.first ≤ forgettable (reverse old.entries) → old.spare ≤ new.spare → IsLogOf s n (reverse new.entries) p new.spare places new.first
 still_log s n p places old new log same few more =
     subst (λ (es : List Entry). IsLogOf s n (reverse es) p new.spare places new.first) (sym same) (record {
@@ -67,7 +67,7 @@ still_log s n p places old new log same few more =
       first = few;
     })
 
-module _ (s : ScriptModel) (n : ℕ) (h : List Entry) (p : Progress) (spare : ℕ) (places : InputPlaces) (first : ℕ) (acc : IsPlayable s) (log : IsLogOf s n h p spare places first) (a : ℕ) (e : Event) (x : Next s n h (entry a e)) where
+module _ (s : ScriptModel) (n : ℕ) (h : List Entry) (p : Progress) (spare : ℕ) (places : Milestones) (first : ℕ) (acc : IsPlayable s) (log : IsLogOf s n h p spare places first) (a : ℕ) (e : Event) (x : Next s n h (entry a e)) where
   done_held : kind_of e ≡ kind.Done → 1 ≤ length (in_flight h)
   done_held = by_event e x
     where
@@ -91,7 +91,7 @@ module _ (s : ScriptModel) (n : ℕ) (h : List Entry) (p : Progress) (spare : �
         held = λ k. let i = ap (λ (z : Progress). z.in_flight) log.progress in let l = done_held k in omega arith;
       }
 
-  module _ (new : Progress) (left : ℕ) (next : InputPlaces) (front : ℕ) (is : new ≡ stepped e p) (there : next ≡ placed (uses e) (length h) places) (same : front ≡ first) where
+  module _ (new : Progress) (left : ℕ) (next : Milestones) (front : ℕ) (is : new ≡ stepped e p) (there : next ≡ placed (milestones e) (length h) places) (same : front ≡ first) where
     -- where there is room after it
     stands : (has_ended (entry a e ∷ h) ≡ false → suc (length (in_flight (entry a e ∷ h))) ≤ left) → IsLogOf s n (entry a e ∷ h) new left next front
     stands room = record {
@@ -99,8 +99,8 @@ module _ (s : ScriptModel) (n : ℕ) (h : List Entry) (p : Progress) (spare : �
       few = log.few;
       progress = is ∙ ap (stepped e) log.progress ∙ sym (progress_step s n h a e log.legal x);
       room = room;
-      newest = ap (λ (q : InputPlaces). q.newest) there ∙ newest_placed (uses e) h (before_input h) (length h) places refl log.newest;
-      older = ap (λ (q : InputPlaces). q.older) there ∙ older_placed (uses e) h (length h) places log.newest log.older;
+      newest = ap (λ (q : Milestones). q.newest) there ∙ newest_placed (milestones e) h (before_newest h) (length h) places refl log.newest;
+      older = ap (λ (q : Milestones). q.older) there ∙ older_placed (milestones e) h (length h) places log.newest log.older;
       first = subst (λ (m : ℕ). m ≤ forgettable (entry a e ∷ h)) (sym same) (still_forgettable h (entry a e) first log.first);
     }
 
@@ -117,7 +117,7 @@ module _ (s : ScriptModel) (n : ℕ) (h : List Entry) (p : Progress) (spare : �
       by_event (event.Stop b) x k room left is going = cc
       by_event _ x k room left is going = cc
 
-  pub kept : is_kept e ≡ true → (new : Progress) (left : ℕ) (next : InputPlaces) (front : ℕ) → new ≡ stepped e p → next ≡ placed (uses e) (length h) places → front ≡ first → left + 1 ≡ spare
+  pub kept : is_kept e ≡ true → (new : Progress) (left : ℕ) (next : Milestones) (front : ℕ) → new ≡ stepped e p → next ≡ placed (milestones e) (length h) places → front ≡ first → left + 1 ≡ spare
       → IsLogOf s n (entry a e ∷ h) new left next front
   kept k new left next front is there same one = stands new left next front is there same (kept_room k (log.room x.going) left one)
 

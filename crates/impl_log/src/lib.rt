@@ -14,11 +14,11 @@
 #![tactic(auto)]
 
 mod growth;
-mod input_places;
 mod kept_history;
 mod kinds;
 mod laws;
 mod log;
+mod milestones;
 mod progress;
 
 pub use kept_history::KeptHistory;

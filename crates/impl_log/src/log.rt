@@ -2,21 +2,21 @@
 
 ghost use Rattle.std.specs.Prelude.{◌≡◌, ◌<◌, ◌≤◌, ◌+◌, ◌-◌, ◌++◌, ◌∷◌, [], length, true, not, ◌&&◌, Some, OnOk, OnErr, IfOk};
 ghost use Rattle.model_states.specs.Kinds.{may, is_main_idle};
-ghost use Rattle.model_history.specs.EventFields.{kind_of, actor_of, begins, uses};
+ghost use Rattle.model_history.specs.EventFields.{kind_of, actor_of, begins};
 ghost use Rattle.model_history.specs.declared.event.Event.TheVariants as event;
 ghost use Rattle.model_history.specs.Accepted.{IsPlayable};
 ghost use Rattle.model_history.specs.Due as dues;
 ghost use Rattle.model_history.specs.Frames as frames;
 ghost use Rattle.model_history.specs.Legal as legal;
 ghost use Rattle.model_history.specs.Scans as scans;
-ghost use Rattle.impl_log.specs.Kept.{forgettable};
+ghost use Rattle.impl_log.specs.Kept.{forgettable, milestones};
 ghost use Rattle.impl_log.specs.Progress as progress;
 ghost use Rattle.impl_log.specs.Runs.{new_run, past, now, with_entry, is_plain_kind, is_kept, Plays};
 ghost use Rattle.impl_log.specs.inner.Logs.{MayStep};
 ghost use Rattle.impl_log.specs.inner.Steps.{placed, stepped};
 
-use crate::input_places::InputPlaces;
 use crate::kept_history::KeptHistory;
+use crate::milestones::Milestones;
 use crate::progress::Progress;
 use model_history::{Entry, Event, Input, Script};
 use model_states::{Kind, MainState};
@@ -40,7 +40,7 @@ pub struct Log {
     workers: u32,
     history: KeptHistory,
     progress: Progress,
-    places: InputPlaces,
+    places: Milestones,
 }
 
 impl Model for Log {
@@ -76,14 +76,14 @@ fn on_if(holds: bool, event: Event) -> Option<Event>
 }
 
 // Adds an entry in a place that was reserved, and steps what is kept of the run by it.
-fn add(history: &mut KeptHistory, progress: &mut Progress, places: &mut InputPlaces, entry: Entry)
+fn add(history: &mut KeptHistory, progress: &mut Progress, places: &mut Milestones, entry: Entry)
     requires room { 1 ≤ history.old.spare }
     requires step { MayStep progress.old entry.event }
     ensures entries { history.new.entries ≡ history.old.entries ++ entry ∷ [] }
     ensures first { history.new.first ≡ history.old.first }
     ensures spare { history.new.spare + 1 ≡ history.old.spare }
     ensures progress { progress.new ≡ stepped entry.event progress.old }
-    ensures places { places.new ≡ placed (uses entry.event) (length history.old.entries) places.old }
+    ensures places { places.new ≡ placed (milestones entry.event) (length history.old.entries) places.old }
 {
     *progress = progress.after(&entry.event);
     *places = places.after(&entry.event, history.len());
@@ -103,7 +103,7 @@ impl Log {
             workers,
             history,
             progress: Progress::START,
-            places: InputPlaces::START,
+            places: Milestones::START,
         })
     }
 
@@ -159,8 +159,8 @@ impl Log {
         self.workers
     }
 
-    /// Forgets the entries that came before the input before the newest one, once these are many or the kept entries
-    /// list many tiles. The run stays as it is.
+    /// Forgets the entries that came before the milestone before the newest one, once these are many or the kept
+    /// entries list many tiles. The run stays as it is.
     pub fn forget(&mut self)
         ensures { self.new ≡ self.old }
     {
@@ -171,11 +171,11 @@ impl Log {
         }
     }
 
-    /// The entries, the oldest first. Those since the input before the newest one are kept, and so is the newest
+    /// The entries, the oldest first. Those since the milestone before the newest one are kept, and so is the newest
     /// entry.
     pub fn history(&self) -> &KeptHistory
         ensures entries { result.now.entries ≡ self.now.entries }
-        ensures inputs { result.now.first ≤ forgettable (past self.now) }
+        ensures kept { result.now.first ≤ forgettable (past self.now) }
         ensures newest { result.now.first ≤ length self.now.entries - 1 }
     {
         &self.history

@@ -113,11 +113,11 @@ impl SingleThread {
         self.core.workers()
     }
 
-    /// The entries, the oldest first. Those since the input before the newest one are kept, and so is the newest
+    /// The entries, the oldest first. Those since the milestone before the newest one are kept, and so is the newest
     /// entry.
     pub fn history(&self) -> &KeptHistory
         ensures entries { result.now.entries ≡ self.now.run.entries }
-        ensures inputs { result.now.first ≤ forgettable (past self.now.run) }
+        ensures kept { result.now.first ≤ forgettable (past self.now.run) }
         ensures newest { result.now.first ≤ length self.now.run.entries - 1 }
     {
         self.core.history()

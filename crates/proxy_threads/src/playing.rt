@@ -2,7 +2,7 @@
 
 ghost use Rattle.std.specs.Prelude.{◌≡◌, ◌≤◌, false, length};
 ghost use Rattle.model_history.specs.Scans.{has_ended};
-ghost use Rattle.impl_log.specs.Kept.{before_input};
+ghost use Rattle.impl_log.specs.Kept.{before_newest};
 ghost use Rattle.impl_log.specs.Runs.{past};
 ghost use Rattle.impl_core.specs.Replies.{is_played};
 ghost use Rattle.proxy_threads.specs.Writing.{HasWritten};
@@ -81,10 +81,10 @@ fn play(core: &mut Core) -> Played
     }
 }
 
-// Plays, and gathers the lines of what was not written. Of that only what is played may use an input, so none of it is
-// forgotten; what was written long ago is.
+// Plays, and gathers the lines of what was not written. Of that only what is played may be a milestone, so none of it
+// is forgotten; what was written long ago is.
 fn compose(core: &mut Core, lines: &mut Lines) -> Played
-    requires { length (before_input (past core.old)) ≤ lines.old.written }
+    requires { length (before_newest (past core.old)) ≤ lines.old.written }
     ensures plays { Plays core.old core.new result }
     ensures gathers { Gathers result lines.old.written core.new.entries lines.new }
     ensures over { lines.new.over ≡ is_played core.new.entries }

@@ -2,7 +2,7 @@
 use Rattle.std.specs.Prelude.{ℕ, suc, ◌-◌, Bool, true, false, ◌||◌, Option, Some, None}
 use Rattle.model_states.specs.Kinds.{sched_after}
 use Rattle.impl_log.specs.declared.progress.Progress.{Progress}
-use Rattle.impl_log.specs.declared.input_places.InputPlaces.{InputPlaces}
+use Rattle.impl_log.specs.declared.milestones.Milestones.{Milestones}
 use Rattle.model_history.specs.declared.event.Event.{Event}
 use Rattle.model_history.specs.declared.event.Event.TheVariants as event
 use Rattle.model_history.specs.EventFields.{kind_of, uses, is_last}
@@ -31,7 +31,7 @@ with_named _ p = p
 abbrev pub stepped : Event → Progress → Progress
 stepped e p = with_named e (with_kind e p)
 
--- the places of the last two inputs after an event at a place, which may use one
-abbrev pub placed : Option ℕ → ℕ → InputPlaces → InputPlaces
+-- the places of the last two milestones after an event at a place, which may be one
+abbrev pub placed : Option ℕ → ℕ → Milestones → Milestones
 placed None at p = p
 placed (Some i) at p = record { newest = at; older = p.newest }

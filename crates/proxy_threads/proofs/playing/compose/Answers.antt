@@ -13,5 +13,5 @@ gather-requires c =
     let same : c.forget.new.self ≡ left = c.forget.ensures ∙ c.renew.ensures in
     let few : forgettable (past left) ≤ c.args.lines.now.written = kept_since 0 old left c.args.lines.now.written c.requires (plays_steps old left c.play-played.result c.play-played.ensures) in
     let kept : forgettable (past c.forget.new.self) ≤ c.args.lines.now.written = subst (λ (r : Run). forgettable (past r) ≤ c.args.lines.now.written) (sym same) few in
-    let first = c.history.ensures.inputs in
+    let first = c.history.ensures.kept in
     omega (arith, kept, first)

@@ -1,12 +1,12 @@
 use Rattle.std.proofs.Common.{◌≡◌, ℕ, ◌+◌, ◌<◌, ◌≤◌, List, [], ◌∷◌, ◌++◌, length, reverse, ap, sym, ◌∙◌, subst, arith}
 use Rattle.std.proofs.lemmas.List.{length-reverse}
 use Rattle.model_history.specs.declared.history.Entry.{Entry}
-use Rattle.model_history.specs.EventFields.{kind_of, uses}
+use Rattle.model_history.specs.EventFields.{kind_of}
 use Rattle.model_history.specs.Legal.{Next}
 use Rattle.model_history.specs.Accepted.{IsPlayable}
 use Rattle.model_history.proofs.DueFacts.{entry}
 use Rattle.impl_log.specs.Runs.{Run, now}
-use Rattle.impl_log.specs.Kept.{forgettable}
+use Rattle.impl_log.specs.Kept.{forgettable, milestones}
 use Rattle.impl_log.specs.inner.Logs.{IsLogOf}
 use Rattle.impl_log.specs.inner.Steps.{placed}
 use Rattle.impl_log.proofs.LogSteps.{past_more, next_is, may_step, entered, still_log}
@@ -42,7 +42,7 @@ invariant_of-self-2 c =
     let left = c.add.new.history.spare in
     let room : n + 1 ≤ left = omega (arith, c.in_ok-reserve.ensures.room, c.add.ensures.spare) in
     let long : length c.reserve.new.self.entries ≡ length h = ap (λ (xs : List Entry). length xs) c.in_ok-reserve.ensures.entries ∙ sym (length-reverse es) in
-    let there : c.add.new.places ≡ placed (uses e) (length h) c.self.inside.places = c.add.ensures.places ∙ ap (λ (k : ℕ). placed (uses e) k c.self.inside.places) long in
+    let there : c.add.new.places ≡ placed (milestones e) (length h) c.self.inside.places = c.add.ensures.places ∙ ap (λ (k : ℕ). placed (milestones e) k c.self.inside.places) long in
     subst (λ (g : List Entry). IsLogOf s n g c.add.new.progress left c.add.new.places c.add.new.history.first)
     (sym (past_more es c.add.new.history.entries (entry a e) (c.add.ensures.entries ∙ ap (λ (xs : List Entry). xs ++ entry a e ∷ []) c.in_ok-reserve.ensures.entries)))
     (entered s n h c.self.inside.progress c.self.inside.history.spare c.self.inside.places c.self.inside.history.first (subst IsPlayable c.deref.ensures c.is_accepted.ensures.playable) c.self.invariant a e x

@@ -1,12 +1,13 @@
 use Rattle.std.proofs.Common.{◌≡◌, ℕ, ◌+◌, ◌<◌, List, length, reverse, ap, sym, ◌∙◌, subst}
 use Rattle.std.proofs.lemmas.List.{length-reverse}
 use Rattle.model_history.specs.declared.history.Entry.{Entry}
-use Rattle.model_history.specs.EventFields.{kind_of, uses}
+use Rattle.model_history.specs.EventFields.{kind_of}
 use Rattle.model_history.specs.Legal.{Next}
 use Rattle.model_history.specs.Accepted.{IsPlayable}
 use Rattle.model_history.proofs.DueFacts.{entry}
 use Rattle.impl_log.specs.Runs.{Run, now}
 use Rattle.impl_log.specs.inner.Logs.{IsLogOf}
+use Rattle.impl_log.specs.Kept.{milestones}
 use Rattle.impl_log.specs.inner.Steps.{placed}
 use Rattle.impl_log.proofs.LogSteps.{past_more, next_is, may_step, kept}
 use Rattle.impl_log.proofs.log.Log.enter_kept.Goals as goal
@@ -33,7 +34,7 @@ invariant_of-self c =
     next_is s n h a e (ap (λ (r : Run). now r (kind_of e) a) c.self.view_is ∙ c.requires.is_now) c.requires.actor (subst (λ (r : Run). a < 2 + r.workers) (sym c.self.view_is) c.requires.within) in
     let es : List Entry = c.self.inside.history.entries in
     let left = c.add.new.history.spare in
-    let there : c.add.new.places ≡ placed (uses e) (length h) c.self.inside.places = c.add.ensures.places ∙ ap (λ (k : ℕ). placed (uses e) k c.self.inside.places) (sym (length-reverse es)) in
+    let there : c.add.new.places ≡ placed (milestones e) (length h) c.self.inside.places = c.add.ensures.places ∙ ap (λ (k : ℕ). placed (milestones e) k c.self.inside.places) (sym (length-reverse es)) in
     subst (λ (g : List Entry). IsLogOf s n g c.add.new.progress left c.add.new.places c.add.new.history.first)
     (sym (past_more es c.add.new.history.entries (entry a e) c.add.ensures.entries))
     (kept s n h c.self.inside.progress c.self.inside.history.spare c.self.inside.places c.self.inside.history.first (subst IsPlayable c.deref.ensures c.is_accepted.ensures.playable) c.self.invariant a e x c.requires.kept

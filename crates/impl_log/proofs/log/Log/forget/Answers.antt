@@ -3,7 +3,7 @@ use Rattle.std.proofs.Common.{◌≤◌, List, reverse, arith}
 use Rattle.std.proofs.lemmas.List.{length-reverse}
 use Rattle.model_history.specs.declared.history.Entry.{Entry}
 use Rattle.impl_log.specs.Kept.{forgettable}
-use Rattle.impl_log.proofs.Forgetting.{before_shorter, before_newest}
+use Rattle.impl_log.proofs.Forgetting.{before_shorter, newest_front}
 use Rattle.impl_log.proofs.LogSteps.{still_log}
 use Rattle.impl_log.proofs.log.Log.forget.Goals as goal
 
@@ -11,7 +11,7 @@ pub forget-requires : goal.forget-requires
 forget-requires c =
     let es : List Entry = c.self.inside.history.entries in
     let older = c.self.invariant.older in
-    let twice = before_newest (reverse es) in
+    let twice = newest_front (reverse es) in
     let once = before_shorter (reverse es) in
     let long = length-reverse es in
     omega (arith, older, twice, once, long)

@@ -5,8 +5,8 @@ use Rattle.impl_log.specs.Runs.{past}
 use Rattle.proxy_single_thread.specs.Singles.{SingleModel}
 use Rattle.proxy_single_thread.proofs.single.SingleThread.history.Goals as goal
 
-pub returns-clause-inputs : goal.returns-clause-inputs
-returns-clause-inputs c = subst (λ (m : SingleModel). c.history.result.now.first ≤ forgettable (past m.run)) c.self.view_is c.history.ensures.inputs
+pub returns-clause-kept : goal.returns-clause-kept
+returns-clause-kept c = subst (λ (m : SingleModel). c.history.result.now.first ≤ forgettable (past m.run)) c.self.view_is c.history.ensures.kept
 
 pub returns-clause-newest : goal.returns-clause-newest
 returns-clause-newest c = subst (λ (m : SingleModel). c.history.result.now.first ≤ length m.run.entries - 1) c.self.view_is c.history.ensures.newest

@@ -26,7 +26,7 @@ loop-at-init c =
 
 pub entry-entry-requires-clause-kept : goal.entry-entry-requires-clause-kept
 entry-entry-requires-clause-kept c =
-    let few = c.history-history.ensures.inputs in
+    let few = c.history-history.ensures.kept in
     let kept = c.requires.kept in
     omega (arith, few, kept, c.loop-at.auto.at)
 
