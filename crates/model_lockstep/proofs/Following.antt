@@ -104,9 +104,24 @@ module _ (test : ScriptModel → List Entry → Bool) (P Q : Way) where
 abbrev pub looped : (ScriptModel → List Entry → Bool) → Way → Way
 looped test P s = While (test s) (P s)
 
-unrolled : (test : List Entry → Bool) (P : Step) (h g : List Entry) → test h ≡ true → While test P h g → (m : List Entry) × P h m × While test P m g
+pub unrolled : (test : List Entry → Bool) (P : Step) (h g : List Entry) → test h ≡ true → While test P h g → (m : List Entry) × P h m × While test P m g
 unrolled test P h g t (zero, (f, e)) = absurd cc
 unrolled test P h g t (suc n, (u, m, p, w)) = (m, p, (n, w))
+
+-- turns, and then something else
+module _ (test : List Entry → Bool) (P Q : Step) where
+  pub turn_first : (h g : List Entry) → test h ≡ true → Then (While test P) Q h g → (m : List Entry) × P h m × Then (While test P) Q m g
+  turn_first h g t (d, w, q) = let (m, p, v) = unrolled test P h d t w in (m, p, (d, v, q))
+
+  pub turn_before : (h m g : List Entry) → test h ≡ true → P h m → Then (While test P) Q m g → Then (While test P) Q h g
+  turn_before h m g t p (d, w, q) = (d, (suc w.0, (t, m, p, w.1)), q)
+
+  pub none_first : (h g : List Entry) → test h ≡ false → Then (While test P) Q h g → Q h g
+  none_first h g f (d, (zero, (e, same)), q) = subst (λ (z : List Entry). Q z g) same q
+  none_first h g f (d, (suc n, (t, m, p, w)), q) = absurd cc
+
+  pub none_before : (h g : List Entry) → test h ≡ false → Q h g → Then (While test P) Q h g
+  none_before h g f q = (h, (zero, (f, refl)), q)
 
 module _ (test : ScriptModel → List Entry → Bool) (P : Way) (first now : WalkState) where
   -- a loop that goes on has a turn

@@ -9,3 +9,4 @@ pub mod Falls
 pub mod Following
 pub mod Parts
 pub mod Courses
+pub mod LeftToPlay

@@ -1,5 +1,5 @@
 -- How far the loops of lockstep have still to go.
-use Rattle.std.specs.Prelude.{ℕ, suc, ◌+◌, ◌-◌, ◌*◌, ◌==◌, Bool, true, false, not, ◌&&◌, List, length, filter, Option, Some, None}
+use Rattle.std.specs.Prelude.{ℕ, suc, ◌+◌, ◌-◌, ◌*◌, ◌==◌, Bool, true, false, not, ◌&&◌, List, [], ◌∷◌, length, filter, Option, Some, None}
 use Rattle.geom.specs.declared.tile.TileKey.{TileKey}
 use Rattle.tile_priority.specs.declared.rank.Bin.{Bin}
 use Rattle.tile_priority.specs.declared.rank.Bin.TheVariants as bin
@@ -13,6 +13,7 @@ use Rattle.geom.specs.KeyLists.{has_key}
 use Rattle.model_history.specs.Tiles.{live_keys, ready}
 use Rattle.model_history.specs.Ranking.{rank}
 use Rattle.model_history.specs.Lockstep.{waits}
+use Rattle.model_lockstep.specs.Walks.{WalkState}
 
 -- a rank of this bin
 abbrev pub is_of_bin : Bin → Option Rank → Bool
@@ -42,3 +43,12 @@ one_if false = 0
 -- the rounds that are left: one for each main frame that was not sent, and one for a pending commit
 unfoldable pub rounds_left : ScriptModel → List Entry → ℕ
 rounds_left s h = (length s.main - counted sends h) + one_if (waits h)
+
+-- the inputs that are left, each of which weighs this much, and the rounds
+abbrev pub left_to_play : {X : Type 0} → List X → ℕ → ℕ → ℕ
+left_to_play [] weight rounds = rounds
+left_to_play (x ∷ xs) weight rounds = weight + left_to_play xs weight rounds
+
+-- how much is left to play, where an input weighs more than all rounds
+abbrev pub to_play : {X : Type 0} → List X → WalkState → ℕ
+to_play is r = left_to_play is (suc (suc (length r.script.main))) (rounds_left r.script r.past)

@@ -1,8 +1,9 @@
 -- What code says of a run that is played in lockstep: where it may go, where it went, and how far it came.
-use Rattle.std.specs.Prelude.{◌≡◌, ℕ, not, ◌||◌, is_some, List, ◌++◌, ⊤, Option, Some, None, Result, Ok, Err}
+use Rattle.std.specs.Prelude.{◌≡◌, ℕ, Bool, true, false, not, ◌||◌, is_some, List, ◌++◌, ⊤, Option, Some, None, Result, Ok, Err}
 use Rattle.model_states.specs.declared.kind.Kind.{Kind}
 use Rattle.model_states.specs.declared.kind.Kind.TheVariants as kind
 use Rattle.model_history.specs.declared.input.Input.{Input}
+use Rattle.model_history.specs.declared.input.Input.TheVariants as input
 use Rattle.model_history.specs.declared.history.Entry.{Entry}
 use Rattle.model_history.specs.Scripts.{ScriptModel}
 use Rattle.model_history.specs.Frames.{active, is_left}
@@ -118,9 +119,6 @@ round_where s = Where waits (Round s) Stays
 abbrev pub last_rounds : Way
 last_rounds s = While (λ h. is_left s h || waits h) (Round s)
 
-abbrev pub awaited : Way
-awaited s = Then (rounds_to_await s) (Enters s kind.Await 0)
-
 abbrev pub settled_rest : Way
 settled_rest s = Then (all_pairs s) (Enters s kind.Settle 0)
 
@@ -133,8 +131,34 @@ input_played i s = InputStep s i
 abbrev pub run_end : Way
 run_end s = Then (last_rounds s) (Enters s kind.End 0)
 
+-- what is left of what an input brings that does not have to wait
+abbrev pub rest_played : Input → Way
+rest_played (input.Await f) s = Enters s kind.Await 0
+rest_played i s = InputStep s i
+
 abbrev pub inputs_from : List Input → Way
 inputs_from is s = InputSteps s is
+
+-- ---- parts
+
+-- the input is an await that is not over
+abbrev pub is_waited_for : Input → WalkState → Bool
+is_waited_for (input.Await f) r = not (is_possible r.script kind.Await 0 r.past)
+is_waited_for _ r = false
+
+-- of what an input brings all that was left was played, or a round of an await that was not over
+abbrev pub PlaysPart : Input → Bool → WalkState → WalkState → Type 0
+PlaysPart i true old new = (is_waited_for i old ≡ false) × Follows (rest_played i) old new
+PlaysPart i false old new = (is_waited_for i old ≡ true) × Follows Round old new
+
+-- a main frame is left, or a commit is pending
+abbrev pub has_rounds : WalkState → Bool
+has_rounds r = is_left r.script r.past || waits r.past
+
+-- of what comes after all inputs the end was played, or a round where one was left
+abbrev pub PlaysEnd : Bool → WalkState → WalkState → Type 0
+PlaysEnd true old new = (has_rounds old ≡ false) × Follows (entering kind.End 0) old new
+PlaysEnd false old new = (has_rounds old ≡ true) × Follows Round old new
 
 -- these entries begin the lockstep history of the script
 abbrev pub BeginsLockstep : ScriptModel → List Entry → Type 0

@@ -1,9 +1,8 @@
-//! What an input brings is played, and the end of a run.
+//! What an input brings is played, and the end of a run, part by part: a round of an await, or of the end, is a part of
+//! its own, so that it can be taken before the next.
 
-ghost use Rattle.std.specs.Prelude.{◌≡◌, ◌||◌, OnOk, OnErr};
-ghost use Rattle.model_history.specs.Frames.{is_left};
-ghost use Rattle.model_history.specs.Lockstep.{waits};
-ghost use Rattle.model_lockstep.specs.Walks.{CanFollow, Follows, IsOnWay, rounds_to_await, awaited, round_where, settled_rest, settled, input_played, last_rounds, run_end};
+ghost use Rattle.std.specs.Prelude.{◌≡◌, IfOk, OnOk, OnErr};
+ghost use Rattle.model_lockstep.specs.Walks.{CanFollow, Follows, IsOnWay, round_where, settled_rest, settled, input_played, rest_played, run_end, has_rounds, is_waited_for, PlaysPart, PlaysEnd};
 
 use crate::compositor::Compositor;
 use crate::draws::draw_frame;
@@ -13,31 +12,6 @@ use model_history::Input;
 use model_states::Kind;
 use std::alloc::AllocError;
 use std::thread::Threads;
-
-/// Plays rounds until the next await is over.
-fn rounds_until_await<R: Threads + Sync, C: Compositor>(
-    rt: &R,
-    core: &mut C,
-) -> Result<(), AllocError>
-    requires can { CanFollow rounds_to_await (C.run core.old) }
-    ensures ok { OnOk result (Follows rounds_to_await (C.run core.old) (C.run core.new)) }
-    ensures err { OnErr result (IsOnWay rounds_to_await (C.run core.old) (C.run core.new)) }
-{
-    while !core.can_await() {
-        round(rt, core)?;
-    }
-    Ok(())
-}
-
-/// Plays what an await waits for.
-fn wait_for_frame<R: Threads + Sync, C: Compositor>(rt: &R, core: &mut C) -> Result<(), AllocError>
-    requires can { CanFollow awaited (C.run core.old) }
-    ensures ok { OnOk result (Follows awaited (C.run core.old) (C.run core.new)) }
-    ensures err { OnErr result (IsOnWay awaited (C.run core.old) (C.run core.new)) }
-{
-    rounds_until_await(rt, core)?;
-    enter(core, Kind::Await, 0)
-}
 
 /// Plays a round if a commit is pending.
 fn round_if_pending<R: Threads + Sync, C: Compositor>(
@@ -75,60 +49,74 @@ fn settle<R: Threads + Sync, C: Compositor>(rt: &R, core: &mut C) -> Result<(), 
     make_and_settle(rt, core)
 }
 
-/// Plays what an input brings, which the run is to be able to follow. On an error memory was refused, and
-/// what was played since is a prefix of that.
-pub(crate) fn play_input<R: Threads + Sync, C: Compositor>(
+/// Plays what is left of what an input brings that does not have to wait.
+fn play_rest<R: Threads + Sync, C: Compositor>(
     rt: &R,
     core: &mut C,
     input: &Input,
 ) -> Result<(), AllocError>
-    requires can { CanFollow (input_played input.now) (C.run core.old) }
-    ensures ok { OnOk result (Follows (input_played input.now) (C.run core.old) (C.run core.new)) }
-    ensures err { OnErr result (IsOnWay (input_played input.now) (C.run core.old) (C.run core.new)) }
+    requires can { CanFollow (rest_played input.now) (C.run core.old) }
+    ensures { OnOk result (Follows (rest_played input.now) (C.run core.old) (C.run core.new)) }
 {
     match input {
         Input::Scroll { .. } => enter(core, Kind::Scroll, 0),
         Input::Wheel { .. } => enter(core, Kind::Wheel, 0),
         Input::Draw => draw_frame(rt, core),
-        Input::Await { .. } => wait_for_frame(rt, core),
+        Input::Await { .. } => enter(core, Kind::Await, 0),
         Input::Settle => settle(rt, core),
     }
 }
 
+/// Whether the input is an await that is not over.
+fn is_held_up<C: Compositor>(core: &C, input: &Input) -> bool
+    ensures { result ≡ is_waited_for input.now (C.run core.now) }
+{
+    match input {
+        Input::Await { .. } => !core.can_await(),
+        _ => false,
+    }
+}
+
+/// Plays a part of what an input brings, which the run is to be able to follow: a round of an await that is not over,
+/// or all that is left. Answers whether that was all. On an error memory was refused.
+pub(crate) fn play_part<R: Threads + Sync, C: Compositor>(
+    rt: &R,
+    core: &mut C,
+    input: &Input,
+) -> Result<bool, AllocError>
+    requires { CanFollow (input_played input.now) (C.run core.old) }
+    ensures { IfOk result (λ over. PlaysPart input.now over (C.run core.old) (C.run core.new)) }
+{
+    if is_held_up(core, input) {
+        round(rt, core)?;
+        return Ok(false);
+    }
+    play_rest(rt, core, input)?;
+    Ok(true)
+}
+
 /// Whether a main frame is left or a commit is pending.
 fn goes_on<C: Compositor>(core: &C) -> bool
-    ensures { result ≡ (is_left (C.run core.now).script (C.run core.now).past || waits (C.run core.now).past) }
+    ensures { result ≡ has_rounds (C.run core.now) }
 {
     let left = core.is_left();
     let waits = core.waits();
     left || waits
 }
 
-/// Plays rounds until no main frame is left and no commit is pending.
-fn rounds_until_end<R: Threads + Sync, C: Compositor>(
+/// Plays one of the rounds that are left after all inputs, or ends the run. Answers whether it ended. On an error
+/// memory was refused.
+pub(crate) fn end_part<R: Threads + Sync, C: Compositor>(
     rt: &R,
     core: &mut C,
-) -> Result<(), AllocError>
-    requires can { CanFollow last_rounds (C.run core.old) }
-    ensures ok { OnOk result (Follows last_rounds (C.run core.old) (C.run core.new)) }
-    ensures err { OnErr result (IsOnWay last_rounds (C.run core.old) (C.run core.new)) }
+) -> Result<bool, AllocError>
+    requires { CanFollow run_end (C.run core.old) }
+    ensures { IfOk result (λ over. PlaysEnd over (C.run core.old) (C.run core.new)) }
 {
-    while goes_on(core) {
+    if goes_on(core) {
         round(rt, core)?;
+        return Ok(false);
     }
-    Ok(())
-}
-
-/// Plays the rounds that are left after all inputs, and ends the run. On an error memory was refused, and
-/// what was played since is a prefix of that.
-pub(crate) fn end_run<R: Threads + Sync, C: Compositor>(
-    rt: &R,
-    core: &mut C,
-) -> Result<(), AllocError>
-    requires can { CanFollow run_end (C.run core.old) }
-    ensures ok { OnOk result (Follows run_end (C.run core.old) (C.run core.new)) }
-    ensures err { OnErr result (IsOnWay run_end (C.run core.old) (C.run core.new)) }
-{
-    rounds_until_end(rt, core)?;
-    enter(core, Kind::End, 0)
+    enter(core, Kind::End, 0)?;
+    Ok(true)
 }

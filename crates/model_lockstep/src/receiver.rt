@@ -11,7 +11,8 @@ use crate::compositor::Compositor;
 use std::alloc::AllocError;
 use std::thread::Threads;
 
-/// What takes what a compositor entered, after each input and after the end of the run, and hands it on to an `O`.
+/// What takes what a compositor entered, part by part, and hands it on to an `O`: after each input, after each round
+/// of an await or of the end, and after the end of the run.
 ///
 /// For clauses it tells whether, from where it began (`Start`), it has all that was entered of a script up to some
 /// past (`has`), the newest entry of which stands first, and what it has where it stopped in that past (`stopped`).
@@ -25,7 +26,7 @@ pub trait Receiver<C: Compositor, O> {
 
     ghost stopped: { Self.Start → ScriptModel → List Entry → Self.Fault → Self → O → Type 0 };
 
-    /// Takes what was entered since all was taken: what one input brings, or the end of the run.
+    /// Takes what was entered since all was taken: one part.
     fn take<R: Threads + Sync>(
         &mut self,
         rt: &R,

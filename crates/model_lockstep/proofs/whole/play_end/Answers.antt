@@ -1,39 +1,84 @@
--- The end of the run was played, and then all was taken; or nothing was.
-use Rattle.std.proofs.Common.{[], List, sym, subst}
-use Rattle.std.specs.Prelude.{reverse, OnOk}
-use Rattle.model_history.specs.declared.history.Entry.{Entry}
+-- Some rounds more, or the end.
+use Rattle.std.proofs.Common.{Bool, [], List, refl, sym, ◌∙◌, subst, arith}
+use Rattle.std.specs.Prelude.{reverse}
 use Rattle.model_history.specs.Lockstep.{IsLockstep}
-use Rattle.model_lockstep.specs.Walks.{run_end}
-use Rattle.model_lockstep.proofs.Courses.{begins_all, begins_none, end_begins, end_can, end_played, err_as, in_ok, since_end}
-use Rattle.model_lockstep.proofs.Parts.{end_grows}
+use Rattle.model_history.specs.Scripts.{ScriptModel}
+use Rattle.model_lockstep.specs.Walks.{BeginsLockstep}
+use Rattle.model_lockstep.specs.Receivers.{ReachesEnd}
 use Rattle.model_lockstep.proofs.whole.play_end.Goals as goal
 
-pub end_run-requires-clause-can : goal.end_run-requires-clause-can
-end_run-requires-clause-can g c κs within = end_can _ c.requires.course
+pub rounds-init : goal.rounds-init
+rounds-init g c = record {
+  stays = record { course = c.requires.course; script = refl };
+  has = λ start has. has;
+  fewer = omega arith;
+}
 
-pub take-requires-clause-since : goal.take-requires-clause-since
-take-requires-clause-since g c = let has = c.requires.has in (has.0, g.C.Compositor.run c.args.core.now, since_end _ _ c.requires.course.all c.in-Ok.ensures.ok, has.1)
+pub take_end_part-requires-clause-course : goal.take_end_part-requires-clause-course
+take_end_part-requires-clause-course g c κs within = c.rounds.invariant.stays.course
 
-pub returns-in-Ok-clause-lockstep : goal.returns-in-Ok-clause-lockstep
-returns-in-Ok-clause-lockstep g c =
-    let old = g.C.Compositor.run c.args.core.now in
-    let mid = g.C.Compositor.run c.end_run.new.core in
-    in_ok c.take.result _ (subst (λ (h : List Entry). IsLockstep old.script (reverse h)) (sym c.take.ensures.past) (end_played old mid.past c.requires.course c.in-Ok.ensures.ok.way))
-
-pub returns-in-Ok-clause-has : goal.returns-in-Ok-clause-has
-returns-in-Ok-clause-has g c = λ start has.
-    let old = g.C.Compositor.run c.args.core.now in
-    subst (λ (h : List Entry). OnOk c.take.result (g.V.Receiver.has start old.script h c.take.new.self c.take.new.out)) (sym c.take.ensures.past)
-    (c.take.ensures.has start old (since_end _ _ c.requires.course.all c.in-Ok.ensures.ok) has)
-
-pub returns-in-Ok-clause-stopped : goal.returns-in-Ok-clause-stopped
-returns-in-Ok-clause-stopped g c = λ start has.
-    let old = g.C.Compositor.run c.args.core.now in
-    let mid = g.C.Compositor.run c.end_run.new.core in
-    err_as _ _ c.take.result (λ fault stopped. (mid.past, end_begins old mid.past c.requires.course (begins_all run_end old mid c.in-Ok.ensures.ok), stopped))
-    (c.take.ensures.stopped start old (since_end _ _ c.requires.course.all c.in-Ok.ensures.ok) has)
+pub take_end_part-requires-clause-has : goal.take_end_part-requires-clause-has
+take_end_part-requires-clause-has g c κs within =
+    let i = c.rounds.invariant in
+    let was = c.requires.has in
+    (was.0, subst (λ (s : ScriptModel). g.V.Receiver.has was.0 s (g.C.Compositor.run c.rounds.core).past c.rounds.receiver c.rounds.out) (sym i.stays.script) (i.has was.0 was.1))
 
 pub returns-in-Err-clause-stopped : goal.returns-in-Err-clause-stopped
 returns-in-Err-clause-stopped g c = λ start has.
-    let old = g.C.Compositor.run c.args.core.now in
-    (old.past, end_begins old old.past c.requires.course (begins_none run_end old end_grows (end_can old c.requires.course)), c.refused.ensures start old.script old.past c.args.receiver.now c.args.out.now has)
+    let i = c.rounds.invariant in
+    let now = g.C.Compositor.run c.rounds.core in
+    let at = c.in-Err.ensures.stopped start (subst (λ (s : ScriptModel). g.V.Receiver.has start s now.past c.rounds.receiver c.rounds.out) (sym i.stays.script) (i.has start has)) in (
+      at.0,
+      subst (λ (s : ScriptModel). BeginsLockstep s (reverse at.0)) i.stays.script at.1,
+      subst (λ (s : ScriptModel). g.V.Receiver.stopped start s at.0 c.in-Err.fault c.take_end_part.new.receiver c.take_end_part.new.out) i.stays.script at.2,
+    )
+
+pub returns-in-Ok-true-clause-reaches : goal.returns-in-Ok-true-clause-reaches
+returns-in-Ok-true-clause-reaches g c =
+    let i = c.rounds.invariant in
+    let now = g.C.Compositor.run c.rounds.core in
+    let next = g.C.Compositor.run c.take_end_part.new.core in
+    let reaches = subst (λ (over : Bool). ReachesEnd over now next) c.in-Ok-true.field-0-test c.in-Ok-true.ensures.reaches in
+    subst (λ (s : ScriptModel). IsLockstep s (reverse next.past)) i.stays.script reaches
+
+pub returns-in-Ok-true-clause-has : goal.returns-in-Ok-true-clause-has
+returns-in-Ok-true-clause-has g c = λ start has.
+    let i = c.rounds.invariant in
+    let now = g.C.Compositor.run c.rounds.core in
+    let next = g.C.Compositor.run c.take_end_part.new.core in
+    subst (λ (s : ScriptModel). g.V.Receiver.has start s next.past c.take_end_part.new.receiver c.take_end_part.new.out) i.stays.script
+    (c.in-Ok-true.ensures.has start (subst (λ (s : ScriptModel). g.V.Receiver.has start s now.past c.rounds.receiver c.rounds.out) (sym i.stays.script) (i.has start has)))
+
+pub rounds-preserved : goal.rounds-preserved
+rounds-preserved g c =
+    let i = c.rounds.invariant in
+    let now = g.C.Compositor.run c.rounds.core in
+    let next = g.C.Compositor.run c.take_end_part.new.core in
+    let reaches = subst (λ (over : Bool). ReachesEnd over now next) c.in-Ok-false.field-0-test c.in-Ok-false.ensures.reaches in
+    let stays = reaches.0 in
+    let less = reaches.1 in
+    record {
+      stays = record { course = stays.course; script = stays.script ∙ i.stays.script };
+      has = λ start has.
+          subst (λ (s : ScriptModel). g.V.Receiver.has start s next.past c.take_end_part.new.receiver c.take_end_part.new.out) i.stays.script
+          (c.in-Ok-false.ensures.has start (subst (λ (s : ScriptModel). g.V.Receiver.has start s now.past c.rounds.receiver c.rounds.out) (sym i.stays.script) (i.has start has)));
+      fewer = omega (arith, less, i.fewer);
+    }
+
+pub returns-then-is_full-clause-reaches : goal.returns-then-is_full-clause-reaches
+returns-then-is_full-clause-reaches g c =
+    let i = c.rounds.invariant in
+    let now = g.C.Compositor.run c.rounds.core in
+    let next = g.C.Compositor.run c.take_end_part.new.core in
+    let reaches = subst (λ (over : Bool). ReachesEnd over now next) c.in-Ok-false.field-0-test c.in-Ok-false.ensures.reaches in
+    let stays = reaches.0 in
+    let less = reaches.1 in
+    (record { course = stays.course; script = stays.script ∙ i.stays.script }, omega (arith, less, i.fewer))
+
+pub returns-then-is_full-clause-has : goal.returns-then-is_full-clause-has
+returns-then-is_full-clause-has g c = λ start has.
+    let i = c.rounds.invariant in
+    let now = g.C.Compositor.run c.rounds.core in
+    let next = g.C.Compositor.run c.take_end_part.new.core in
+    subst (λ (s : ScriptModel). g.V.Receiver.has start s next.past c.take_end_part.new.receiver c.take_end_part.new.out) i.stays.script
+    (c.in-Ok-false.ensures.has start (subst (λ (s : ScriptModel). g.V.Receiver.has start s now.past c.rounds.receiver c.rounds.out) (sym i.stays.script) (i.has start has)))

@@ -1,16 +1,17 @@
--- The inputs that are left lead on, and the receiver has what the others brought.
-use Rattle.std.proofs.Common.{◌≤◌, length}
+-- The inputs that are left lead on, the receiver has what was played, and less is left to play.
+use Rattle.std.proofs.Common.{◌≤◌}
+use Rattle.model_lockstep.specs.Measures.{to_play}
 use Rattle.model_lockstep.specs.Receivers.{StaysOn}
 use Rattle.model_lockstep.proofs.whole.play_some.Given as goal
 
-abbrev pub invariant-loop-input : goal.invariant-loop-input
-invariant-loop-input g l =
+abbrev pub invariant-parts : goal.invariant-parts
+invariant-parts g l =
     let first = g.C.Compositor.run l.fn.core in
     record {
       stays : StaysOn l.rest first (g.C.Compositor.run l.core);
       has : (start : g.V.Receiver.Start) → g.V.Receiver.has start first.script first.past l.fn.receiver l.fn.out → g.V.Receiver.has start first.script (g.C.Compositor.run l.core).past l.receiver l.out;
-      fewer : length l.rest ≤ length l.inputs;
+      nearer : to_play l.rest (g.C.Compositor.run l.core) ≤ to_play l.inputs first;
     }
 
-abbrev pub decreases-loop-input : goal.decreases-loop-input
-decreases-loop-input g l = length l.rest
+abbrev pub decreases-parts : goal.decreases-parts
+decreases-parts g l = to_play l.rest (g.C.Compositor.run l.core)
