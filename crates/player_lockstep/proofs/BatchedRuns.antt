@@ -1,5 +1,5 @@
 -- Runs that are played batch by batch.
-use Rattle.std.proofs.Common.{◌≡◌, ℕ, List, [], ◌++◌, refl, ap, sym, ◌∙◌, append_assoc, append-nil, subst}
+use Rattle.std.proofs.Common.{◌≡◌, ℕ, Bool, true, false, List, [], ◌++◌, refl, ap, sym, ◌∙◌, append_assoc, append-nil, subst}
 use Rattle.std.specs.Prelude.{reverse, Option, Result, Ok, Err, IfOk, OnErr, OnOk}
 use Rattle.std.specs.Io.KnownBytes.{Appends}
 use Rattle.std.specs.declared.alloc.AllocError.{AllocError}
@@ -11,7 +11,7 @@ use Rattle.model_history.specs.declared.input.Input.{Input}
 use Rattle.model_history.specs.Lockstep.{IsLockstep}
 use Rattle.model_history.specs.Recordings.{header, pieces}
 use Rattle.model_history.specs.Scripts.{ScriptModel}
-use Rattle.model_lockstep.specs.Receivers.{OnCourse, StaysOn}
+use Rattle.model_lockstep.specs.Receivers.{OnCourse, ReachesEnd, StaysOn}
 use Rattle.model_lockstep.proofs.Courses.{course_begins}
 use Rattle.impl_log.specs.Runs.{Run, past}
 use Rattle.script_json.specs.Recordings.{script_text, recording}
@@ -45,9 +45,8 @@ pub completes : {X E : Type 0} (result : Result X E) (s : ScriptModel) (text : L
 completes (Ok x) s text new before after has = λ lead is. has lead is ∙ ap (λ (es : List Entry). recording s es) (reverse-reverse new.run.entries)
 completes (Err e) s text new before after has = tt
 
-pub ends_lockstep : {X E : Type 0} (result : Result X E) (s : ScriptModel) (new : SingleModel) → OnOk result (IsLockstep s (reverse (past new.run))) → OnOk result (IsLockstep s new.run.entries)
-ends_lockstep (Ok x) s new lockstep = subst (λ (es : List Entry). IsLockstep s es) (reverse-reverse new.run.entries) lockstep
-ends_lockstep (Err e) s new lockstep = tt
+pub ends_lockstep : (s : ScriptModel) (new : SingleModel) → IsLockstep s (reverse (past new.run)) → IsLockstep s new.run.entries
+ends_lockstep s new lockstep = subst (λ (es : List Entry). IsLockstep s es) (reverse-reverse new.run.entries) lockstep
 
 -- ---- what a sink gained
 
@@ -80,14 +79,23 @@ module _ (start now next : Option (List ℕ)) (whole held shots lines : List ℕ
 pub half_later : (old new : Run) (start next : Option (List ℕ)) (lines held : List ℕ) → Half start next (run_text old) lines → KeepsUp old new lines held → Half start next (run_text new) held
 half_later old new start next lines held half keeps = (half.0, keeps half.0 half.1, half.2)
 
--- the end was played, and all that waited was put, or a prefix of it
-pub end_put : {X E : Type 0} (result : Result X E) (old new : SingleModel) (start now next : Option (List ℕ)) (before held : List ℕ) → IsLockstep old.run.script new.run.entries
-    → Completes before (run_text old.run) held (recording old.run.script new.run.entries) → Half start now (run_text old.run) before → PutsAll now next held result
-    → (whole : List ℕ) × IsLockstepRecording old.run.script whole × PutsAll start next whole result
-end_put result old new start now next before held lockstep completes half puts =
-    let s : ScriptModel = old.run.script in
-    let es : List Entry = new.run.entries in
-    (recording s es, (es, lockstep, refl), written_after result start now next half.0 held (recording s es) half.2 puts (completes half.0 half.1))
+-- what was played after all inputs waits
+pub half_gathered : (start now : Option (List ℕ)) (text whole before held : List ℕ) → Half start now text before → Completes before text held whole → Half start now whole held
+half_gathered start now text whole before held half completes = (half.0, completes half.0 half.1, half.2)
+
+-- a prefix of what was played after all inputs is a prefix of the script's recording
+pub end_stops : (over : Bool) (old new : SingleModel) (start after : Option (List ℕ)) → ReachesEnd over (walk_of old) (walk_of new) → GainsPrefix start after (recording old.run.script new.run.entries) → StopsEarly old.run.script start after
+end_stops true old new start after lockstep front = (recording old.run.script new.run.entries, (new.run.entries, ends_lockstep old.run.script new lockstep, refl), front)
+end_stops false old new start after (stays, fewer) front =
+    subst (λ (s : ScriptModel). StopsEarly s start after) stays.script
+    (stops_early [] new start after stays.course (subst (λ (s : ScriptModel). GainsPrefix start after (recording s new.run.entries)) (sym stays.script) front))
+
+-- all was played, and what waits was put, or a prefix of it
+pub all_put : {X E : Type 0} (result : Result X E) (s : ScriptModel) (new : SingleModel) (start now next : Option (List ℕ)) (held : List ℕ) → IsLockstep s (reverse (past new.run)) → Half start now (recording s new.run.entries) held → PutsAll now next held result
+    → (whole : List ℕ) × IsLockstepRecording s whole × PutsAll start next whole result
+all_put result s new start now next held lockstep half puts =
+    let whole : List ℕ = recording s new.run.entries in
+    (whole, (new.run.entries, ends_lockstep s new lockstep, refl), written_after result start now next half.0 held whole half.2 puts half.1)
 
 -- before anything was entered, the recording is the lines before the events
 pub fresh_half : (s : ScriptModel) (m : SingleModel) (start now : Option (List ℕ)) (lines held : List ℕ) → IsFresh s m → held ≡ lines → Half start now (header (script_text s)) lines → Half start now (run_text m.run) held

@@ -2,7 +2,7 @@ mod BatchedRuns
 pub mod DrawnScenes
 pub mod PlayedWays
 pub mod RecordedRuns
-pub mod UsedInputs
+pub mod PassedMilestones
 mod FilmedRuns
 mod ShotRuns
 pub mod Received

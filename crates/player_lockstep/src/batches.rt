@@ -15,7 +15,8 @@
 //!                       +---- join -------+---- join -------+
 //! ```
 //!
-//! A batch has the pieces of some inputs: the lines of what was entered, and after the line of a draw its scene.
+//! A batch has the pieces of some parts of the run: the lines of what was entered, and after the line of a draw its
+//! scene. A part is an input, a round of an await or of the end, or the end itself.
 //! Playing fills the next batch while N painters paint and put the one before (`join_mut`). The next batch begins when
 //! both sides are done, so each waits for the slower one and for nothing else. Putting is the second closure, which
 //! runs on the calling thread: a sink need not go to another thread. When all is played, the last batch is painted and
@@ -23,7 +24,7 @@
 //!
 //! A batch is full with four pieces for each painter, or with fewer, as many for each, if images are large: it has at
 //! most 48 MiB, judged by the size of the last piece. Lines that no image follows become a piece of their own from 64
-//! KiB on. What one input brings stands in one batch.
+//! KiB on. What a part brings stands in one batch, and the rounds of an await or of the end in as many as they fill.
 //!
 //! # Cost
 //!
@@ -34,8 +35,8 @@
 //! # Limits
 //!
 //! The slower side sets the pace: a script with few draws gains little. A single image above 48 MiB is a batch of its
-//! own, and is painted in parts. An input that brings many main frames is one batch, however long its lines become. A
-//! put that was refused is told when the playing of the next batch ends. If memory runs out while a batch is played,
+//! own, and is painted in parts. Beside what comes after all inputs nothing is put: a batch of it is put when it is full.
+//! A put that was refused is told when the playing of the next batch ends. If memory runs out while a batch is played,
 //! the batch before it may have been put, and what was played is not. That anything happens side by side, or is faster,
 //! is not claimed: the clauses speak of the bytes and of the history alone.
 
@@ -46,7 +47,8 @@ ghost use Rattle.byte_io.specs.Pieces.{GainsPrefix, PutsAll, WriteCause};
 ghost use Rattle.model_history.specs.declared.history.Entry.{Entry};
 ghost use Rattle.model_history.specs.Lockstep.{IsLockstep};
 ghost use Rattle.model_history.specs.Recordings.{header, pieces};
-ghost use Rattle.model_lockstep.specs.Receivers.{OnCourse, StaysOn};
+ghost use Rattle.model_lockstep.specs.Measures.{to_play};
+ghost use Rattle.model_lockstep.specs.Receivers.{OnCourse, ReachesEnd, StaysOn};
 ghost use Rattle.impl_log.specs.Kept.{forgettable};
 ghost use Rattle.impl_log.specs.Runs.{past};
 ghost use Rattle.proxy_single_thread.specs.Singles.{walk_of};
@@ -120,8 +122,8 @@ impl Receiver<SingleThread, ()> for Gathering {
     }
 }
 
-// Plays inputs until the batch has as much as its painters take at a time, and adds what they bring. The inputs that
-// are left.
+// Plays inputs, part by part, until the batch has as much as its painters take at a time, and adds what they bring. The
+// inputs that are left.
 fn gather_inputs<'i, R: Threads + Sync>(
     rt: &R,
     single: &mut SingleThread,
@@ -131,19 +133,20 @@ fn gather_inputs<'i, R: Threads + Sync>(
     requires course { OnCourse inputs.now (walk_of single.old) }
     ensures course { IfOk result (λ left. StaysOn left.now (walk_of single.old) (walk_of single.new)) }
     ensures bytes { OnOk result (KeepsUp single.old.run single.new.run (held_of gathering.old.batch) (held_of gathering.new.batch)) }
-    ensures fewer { 1 ≤ length inputs.now → IfOk result (λ left. length left.now < length inputs.now) }
+    ensures nearer { 1 ≤ length inputs.now → IfOk result (λ left. to_play left.now (walk_of single.new) < to_play inputs.now (walk_of single.old)) }
 {
     play_some(rt, single, inputs, gathering, &mut ())
 }
 
-// Plays what is left after all inputs, and adds it.
+// Plays what is left after all inputs, round by round, until the batch has as much as its painters take at a time, and
+// adds it. Answers whether the run has ended.
 fn gather_end<R: Threads + Sync>(
     rt: &R,
     single: &mut SingleThread,
     gathering: &mut Gathering,
-) -> Result<(), AllocError>
+) -> Result<bool, AllocError>
     requires course { OnCourse [] (walk_of single.old) }
-    ensures lockstep { OnOk result (IsLockstep single.old.run.script single.new.run.entries) }
+    ensures reaches { IfOk result (λ over. ReachesEnd over (walk_of single.old) (walk_of single.new)) }
     ensures bytes { OnOk result (Completes (held_of gathering.old.batch) (run_text single.old.run) (held_of gathering.new.batch) (recording single.old.run.script single.new.run.entries)) }
 {
     play_end(rt, single, gathering, &mut ())
@@ -178,7 +181,7 @@ fn play_beside<'i, R: Threads + Sync, K: Sink>(
     requires course { OnCourse inputs.now (walk_of single.old) }
     ensures course { IfOk result.0 (λ left. StaysOn left.now (walk_of single.old) (walk_of single.new)) }
     ensures bytes { OnOk result.0 (KeepsUp single.old.run single.new.run (held_of gathering.old.batch) (held_of gathering.new.batch)) }
-    ensures fewer { 1 ≤ length inputs.now → IfOk result.0 (λ left. length left.now < length inputs.now) }
+    ensures nearer { 1 ≤ length inputs.now → IfOk result.0 (λ left. to_play left.now (walk_of single.new) < to_play inputs.now (walk_of single.old)) }
     ensures put { PutsAll (K.held out.old) (K.held out.new) (all_shown shots.items) result.1 }
     ensures grows { K.faults out.old ≤ K.faults out.new }
     ensures cause { WriteCause (K.faults out.old) (K.faults out.new) result.1 }
@@ -208,7 +211,7 @@ fn record_batch<'i, R: Threads + Sync, K: Sink>(
     ensures course { IfOk result (λ left. StaysOn left.now (walk_of single.old) (walk_of single.new)) }
     ensures ok { (start : Option (List ℕ)) → Half start (K.held out.old) (run_text single.old.run) (held_of gathering.old.batch) → OnOk result (Half start (K.held out.new) (run_text single.new.run) (held_of gathering.new.batch)) }
     ensures err { (start : Option (List ℕ)) → Half start (K.held out.old) (run_text single.old.run) (held_of gathering.old.batch) → OnErr result (GainsPrefix start (K.held out.new) (run_text single.old.run)) }
-    ensures fewer { 1 ≤ length inputs.now → IfOk result (λ left. length left.now < length inputs.now) }
+    ensures nearer { 1 ≤ length inputs.now → IfOk result (λ left. to_play left.now (walk_of single.new) < to_play inputs.now (walk_of single.old)) }
     ensures grows { K.faults out.old ≤ K.faults out.new }
     ensures cause { WriteCause (K.faults out.old) (K.faults out.new) result }
 {
@@ -244,7 +247,35 @@ fn record_inputs<R: Threads + Sync, K: Sink>(
     Ok(())
 }
 
-// Plays what is left after all inputs, and puts all that waits.
+// Plays some of what is left after all inputs into the batch, and paints and puts its pieces; the lines after them wait.
+// Answers whether the run has ended.
+fn record_rounds<R: Threads + Sync, K: Sink>(
+    rt: &R,
+    painters: &mut Painters<ImagePainter>,
+    single: &mut SingleThread,
+    gathering: &mut Gathering,
+    out: &mut K,
+) -> Result<bool, PutFault>
+    requires course { OnCourse [] (walk_of single.old) }
+    ensures reaches { IfOk result (λ over. ReachesEnd over (walk_of single.old) (walk_of single.new)) }
+    ensures ok { (start : Option (List ℕ)) → Half start (K.held out.old) (run_text single.old.run) (held_of gathering.old.batch) → OnOk result (Half start (K.held out.new) (recording single.old.run.script single.new.run.entries) (held_of gathering.new.batch)) }
+    ensures err { (start : Option (List ℕ)) → Half start (K.held out.old) (run_text single.old.run) (held_of gathering.old.batch) → OnErr result (StopsEarly single.old.run.script start (K.held out.new)) }
+    ensures grows { K.faults out.old ≤ K.faults out.new }
+    ensures cause { WriteCause (K.faults out.old) (K.faults out.new) result }
+{
+    match gather_end(rt, single, gathering) {
+        Ok(over) => {
+            let shots = gathering.batch.take_shots();
+            match painters.put(rt, shots, out) {
+                Ok(()) => Ok(over),
+                Err(stop) => Err(stop),
+            }
+        }
+        Err(refused) => Err(PutFault::Memory(refused)),
+    }
+}
+
+// Plays what is left after all inputs, batch by batch, and puts all that waits.
 fn record_end<R: Threads + Sync, K: Sink>(
     rt: &R,
     painters: &mut Painters<ImagePainter>,
@@ -258,9 +289,12 @@ fn record_end<R: Threads + Sync, K: Sink>(
     ensures grows { K.faults out.old ≤ K.faults out.new }
     ensures cause { WriteCause (K.faults out.old) (K.faults out.new) result }
 {
-    match gather_end(rt, single, gathering) {
-        Ok(()) => gathering.batch.put(rt, painters, out),
-        Err(refused) => Err(PutFault::Memory(refused)),
+    'rounds: loop {
+        match record_rounds(rt, painters, single, gathering, out) {
+            Ok(true) => return gathering.batch.put(rt, painters, out),
+            Ok(false) => {}
+            Err(stop) => return Err(stop),
+        }
     }
 }
 

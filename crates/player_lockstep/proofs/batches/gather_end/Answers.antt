@@ -1,4 +1,4 @@
--- The end of the run was gathered.
+-- What comes after all inputs was gathered.
 use Rattle.std.proofs.Common.{sym, ◌∙◌, ap}
 use Rattle.std.proofs.lemmas.List.{reverse-reverse}
 use Rattle.model_history.specs.declared.history.Entry.{Entry}
@@ -6,16 +6,13 @@ use Rattle.std.specs.Prelude.{List}
 use Rattle.script_json.specs.Recordings.{recording}
 use Rattle.recording_writer.specs.Batches.{held_of}
 use Rattle.player_lockstep.specs.inner.Batches.{run_text}
-use Rattle.player_lockstep.proofs.BatchedRuns.{completes, ends_lockstep, waited}
+use Rattle.player_lockstep.proofs.BatchedRuns.{completes, waited}
 use Rattle.player_lockstep.proofs.batches.gather_end.Goals as goal
 
 pub play_end-requires-clause-has : goal.play_end-requires-clause-has
 play_end-requires-clause-has g c κs within =
     let run = c.args.single.now.run in
     (waited run (held_of c.args.gathering.now.batch), λ lead is. is ∙ ap (λ (es : List Entry). recording run.script es) (sym (reverse-reverse run.entries)))
-
-pub returns-clause-lockstep : goal.returns-clause-lockstep
-returns-clause-lockstep g c = ends_lockstep c.play_end.result c.args.single.now.run.script c.play_end.new.core c.play_end.ensures.lockstep
 
 pub returns-clause-bytes : goal.returns-clause-bytes
 returns-clause-bytes g c =

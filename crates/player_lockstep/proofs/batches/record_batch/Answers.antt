@@ -1,8 +1,9 @@
 -- What was played waits, and what waited was put; or a prefix of it was.
-use Rattle.std.proofs.Common.{◌<◌, length, subst, sym}
+use Rattle.std.proofs.Common.{◌<◌, subst, sym}
 use Rattle.std.specs.Prelude.{IfOk, OnErr, OnOk}
 use Rattle.byte_io.specs.Pieces.{GainsPrefix, WriteCause}
 use Rattle.recording_writer.specs.Batches.{held_of}
+use Rattle.model_lockstep.specs.Measures.{to_play}
 use Rattle.model_lockstep.specs.Receivers.{StaysOn}
 use Rattle.proxy_single_thread.specs.Singles.{walk_of}
 use Rattle.player_lockstep.specs.inner.Batches.{run_text}
@@ -13,8 +14,10 @@ use Rattle.player_lockstep.proofs.batches.record_batch.Goals as goal
 pub returns-clause-course : goal.returns-clause-course
 returns-clause-course g c = subst (λ r. IfOk r (λ left. StaysOn left.now (walk_of c.args.single.now) (walk_of c.play_beside-put.new.single))) (sym c.both_answer.ensures) (joint_if _ c.play_beside-put.result.0 c.play_beside-put.result.1 c.play_beside-put.ensures.course)
 
-pub returns-clause-fewer : goal.returns-clause-fewer
-returns-clause-fewer g c = λ some. subst (λ r. IfOk r (λ left. length left.now < length c.args.inputs.now)) (sym c.both_answer.ensures) (joint_if _ c.play_beside-put.result.0 c.play_beside-put.result.1 (c.play_beside-put.ensures.fewer some))
+pub returns-clause-nearer : goal.returns-clause-nearer
+returns-clause-nearer g c = λ some.
+    subst (λ r. IfOk r (λ left. to_play left.now (walk_of c.play_beside-put.new.single) < to_play c.args.inputs.now (walk_of c.args.single.now))) (sym c.both_answer.ensures)
+    (joint_if _ c.play_beside-put.result.0 c.play_beside-put.result.1 (c.play_beside-put.ensures.nearer some))
 
 pub returns-clause-ok : goal.returns-clause-ok
 returns-clause-ok g c = λ start half.

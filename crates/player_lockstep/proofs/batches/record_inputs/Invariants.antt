@@ -1,7 +1,8 @@
 -- The inputs that are left lead on, and the sink gained what was entered but for what waits.
-use Rattle.std.proofs.Common.{ℕ, ◌≤◌, List, length}
+use Rattle.std.proofs.Common.{ℕ, ◌≤◌, List}
 use Rattle.std.specs.Prelude.{Option}
 use Rattle.recording_writer.specs.Batches.{held_of}
+use Rattle.model_lockstep.specs.Measures.{to_play}
 use Rattle.model_lockstep.specs.Receivers.{StaysOn}
 use Rattle.proxy_single_thread.specs.Singles.{walk_of}
 use Rattle.player_lockstep.specs.inner.Batches.{run_text}
@@ -16,4 +17,4 @@ invariant-loop-rest g l = record {
 }
 
 abbrev pub decreases-loop-rest : goal.decreases-loop-rest
-decreases-loop-rest g l = length l.rest
+decreases-loop-rest g l = to_play l.rest (walk_of l.single)

@@ -2,7 +2,7 @@
 use Rattle.model_lockstep.proofs.Following.{then_on_ok}
 use Rattle.recording_writer.specs.Batches.{held_of}
 use Rattle.player_lockstep.proofs.Received.{gathered_has}
-use Rattle.player_lockstep.proofs.UsedInputs.{kept_since}
+use Rattle.player_lockstep.proofs.PassedMilestones.{kept_since}
 use Rattle.player_lockstep.proofs.batches.GatheringReceiverSingleThreadUnit.take.Goals as goal
 
 pub gather_news-requires : goal.gather_news-requires

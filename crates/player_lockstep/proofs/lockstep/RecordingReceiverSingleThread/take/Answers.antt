@@ -1,6 +1,6 @@
 -- What was entered since all was taken was written, or a prefix of it.
 use Rattle.player_lockstep.proofs.Received.{keeps_since, recorded_has, recorded_stopped}
-use Rattle.player_lockstep.proofs.UsedInputs.{kept_since}
+use Rattle.player_lockstep.proofs.PassedMilestones.{kept_since}
 use Rattle.player_lockstep.proofs.lockstep.RecordingReceiverSingleThread.take.Goals as goal
 
 pub write_news-requires-clause-kept : goal.write_news-requires-clause-kept
