@@ -19,7 +19,8 @@ use Rattle.proxy_single_thread.specs.Singles.{SingleModel, walk_of}
 use Rattle.player_lockstep.specs.Recordings.{IsLockstepRecording, Records}
 use Rattle.byte_io.specs.declared.writing.PutFault.{PutFault}
 use Rattle.byte_io.specs.declared.writing.PutFault.TheVariants.{Failed, Memory}
-use Rattle.player_lockstep.specs.inner.Ways.{IsFresh, recorded_run}
+use Rattle.byte_io.specs.declared.writing.Sink as sink
+use Rattle.player_lockstep.specs.inner.Ways.{IsFresh, RecordsRun, recorded_run}
 use Rattle.thread_pieces.proofs.Gains.{gains_longer, gains_nothing}
 use Rattle.player_lockstep.proofs.PlayedWays.{pieces_both}
 
@@ -59,18 +60,27 @@ records_front s old new accepted front =
     (recording s l.0, (l.0, l.1, refl), subst (λ (w : List ℕ). GainsPrefix old new w) (whole_of s l.0) (gains_longer old new (header (script_text s)) (pieces s [] l.0) front))
 
 -- a run that was recorded or not says the same with its entries
-pub records_run : {X : Type 0} (s : ScriptModel) (old new : Option (List ℕ)) (x : X) (written : Result ⊤ PutFault) (result : Result X PutFault) → result ≡ recorded_run x written → Records s old new written → Records s old new result
+records_run : {X : Type 0} (s : ScriptModel) (old new : Option (List ℕ)) (x : X) (written : Result ⊤ PutFault) (result : Result X PutFault) → result ≡ recorded_run x written → Records s old new written → Records s old new result
 records_run s old new x (Ok tt) result is records = subst (λ (r : Result _ PutFault). Records s old new r) (sym is) records
 records_run s old new x (Err stop) result is records = subst (λ (r : Result _ PutFault). Records s old new r) (sym is) records
 
-pub cause_run : {X : Type 0} (f g : ℕ) (x : X) (written : Result ⊤ PutFault) (result : Result X PutFault) → result ≡ recorded_run x written → WriteCause f g written → WriteCause f g result
+cause_run : {X : Type 0} (f g : ℕ) (x : X) (written : Result ⊤ PutFault) (result : Result X PutFault) → result ≡ recorded_run x written → WriteCause f g written → WriteCause f g result
 cause_run f g x (Ok tt) result is cause = subst (λ (r : Result _ PutFault). WriteCause f g r) (sym is) tt
 cause_run f g x (Err Failed) result is cause = subst (λ (r : Result _ PutFault). WriteCause f g r) (sym is) cause
 cause_run f g x (Err (Memory _)) result is cause = subst (λ (r : Result _ PutFault). WriteCause f g r) (sym is) tt
 
-pub lockstep_run : (s : ScriptModel) (entries : List Entry) (written : Result ⊤ PutFault) (result : Result (List Entry) PutFault) → result ≡ recorded_run entries written → IfOk written (λ whole. IsLockstep s entries) → IfOk result (IsLockstep s)
+lockstep_run : (s : ScriptModel) (entries : List Entry) (written : Result ⊤ PutFault) (result : Result (List Entry) PutFault) → result ≡ recorded_run entries written → IfOk written (λ whole. IsLockstep s entries) → IfOk result (IsLockstep s)
 lockstep_run s entries (Ok tt) result is right = subst (λ (r : Result (List Entry) PutFault). IfOk r (IsLockstep s)) (sym is) right
 lockstep_run s entries (Err stop) result is right = subst (λ (r : Result (List Entry) PutFault). IfOk r (IsLockstep s)) (sym is) tt
+
+pub run_told : {K P : Type 0} (k : sink.Ghosts K P) (s : ScriptModel) (old new : K) (entries : List Entry) (written : Result ⊤ PutFault) (result : Result (List Entry) PutFault) → result ≡ recorded_run entries written
+    → RecordsRun k s old new (λ whole. entries) written → RecordsRun k s old new (λ run. run) result
+run_told k s old new entries written result is run = record {
+  bytes = records_run s (k.held old) (k.held new) entries written result is run.bytes;
+  history = lockstep_run s entries written result is run.history;
+  grows = run.grows;
+  cause = cause_run (k.faults old) (k.faults new) entries written result is run.cause;
+}
 
 -- what holds however it ends holds where it ends well
 pub where_ok : {X E : Type 0} (P : Type 0) (result : Result X E) → P → IfOk result (λ x. P)

@@ -16,11 +16,10 @@
 //! ```
 //!
 //! A batch has the pieces of some parts of the run: the lines of what was entered, and after the line of a draw its
-//! scene. A part is an input, a round of an await or of the end, or the end itself.
-//! Playing fills the next batch while N painters paint and put the one before (`join_mut`). The next batch begins when
-//! both sides are done, so each waits for the slower one and for nothing else. Putting is the second closure, which
-//! runs on the calling thread: a sink need not go to another thread. When all is played, the last batch is painted and
-//! put.
+//! scene. A part is an input, a round of an await or of the end, or the end itself. Playing fills the next batch while
+//! N painters paint and put the one before (`join_mut`). The next batch begins when both sides are done, so each waits
+//! for the slower one and for nothing else. Putting is the second closure, which runs on the calling thread: a sink
+//! need not go to another thread. When all inputs were played, what is left is played and put in turn, batch by batch.
 //!
 //! A batch is full with four pieces for each painter, or with fewer, as many for each, if images are large: it has at
 //! most 48 MiB, judged by the size of the last piece. Lines that no image follows become a piece of their own from 64
@@ -35,17 +34,16 @@
 //! # Limits
 //!
 //! The slower side sets the pace: a script with few draws gains little. A single image above 48 MiB is a batch of its
-//! own, and is painted in parts. Beside what comes after all inputs nothing is put: a batch of it is put when it is full.
-//! A put that was refused is told when the playing of the next batch ends. If memory runs out while a batch is played,
-//! the batch before it may have been put, and what was played is not. That anything happens side by side, or is faster,
-//! is not claimed: the clauses speak of the bytes and of the history alone.
+//! own, and is painted in parts. Nothing is put while what comes after all inputs is played. A put that was refused is
+//! told when the playing of the next batch ends. If memory runs out while a batch is played, the batch before it may
+//! have been put, and what was played is not. That anything happens side by side, or is faster, is not claimed: the
+//! clauses speak of the bytes and of the history alone.
 
 ghost use Rattle.std.specs.Prelude.{◌≡◌, ◌≤◌, ◌<◌, ◌++◌, ℕ, List, [], Option, length, reverse, IfOk, OnErr, OnOk};
 ghost use Rattle.std.specs.Thread.{IsSync};
 ghost use Rattle.serde_json.specs.Written.{compact_text};
 ghost use Rattle.byte_io.specs.Pieces.{GainsPrefix, PutsAll, WriteCause};
 ghost use Rattle.model_history.specs.declared.history.Entry.{Entry};
-ghost use Rattle.model_history.specs.Lockstep.{IsLockstep};
 ghost use Rattle.model_history.specs.Recordings.{header, pieces};
 ghost use Rattle.model_lockstep.specs.Measures.{to_play};
 ghost use Rattle.model_lockstep.specs.Receivers.{OnCourse, ReachesEnd, StaysOn};
@@ -55,11 +53,10 @@ ghost use Rattle.proxy_single_thread.specs.Singles.{walk_of};
 ghost use Rattle.thread_pieces.specs.Shots.{all_shown};
 ghost use Rattle.script_json.specs.Recordings.{recording};
 ghost use Rattle.script_json.specs.ScriptValue.{parts_data};
-ghost use Rattle.player_lockstep.specs.Recordings.{Records};
 ghost use Rattle.recording_writer.specs.Batches.{held_of};
 ghost use Rattle.player_lockstep.specs.inner.Batches.{Completes, KeepsUp, StopsEarly, joint_answer, run_text};
 ghost use Rattle.recording_writer.specs.Parts.{Half};
-ghost use Rattle.player_lockstep.specs.inner.Ways.{IsFresh};
+ghost use Rattle.player_lockstep.specs.inner.Ways.{IsFresh, RecordsRest};
 
 use byte_io::{PutFault, Sink};
 use model_history::{Input, Script};
@@ -247,8 +244,8 @@ fn record_inputs<R: Threads + Sync, K: Sink>(
     Ok(())
 }
 
-// Plays some of what is left after all inputs into the batch, and paints and puts its pieces; the lines after them wait.
-// Answers whether the run has ended.
+// Plays some of what is left after all inputs into the batch, and paints and puts its pieces; the lines after them
+// wait. Answers whether the run has ended.
 fn record_rounds<R: Threads + Sync, K: Sink>(
     rt: &R,
     painters: &mut Painters<ImagePainter>,
@@ -284,10 +281,7 @@ fn record_end<R: Threads + Sync, K: Sink>(
     out: &mut K,
 ) -> Result<(), PutFault>
     requires course { OnCourse [] (walk_of single.old) }
-    ensures bytes { (start : Option (List ℕ)) → Half start (K.held out.old) (run_text single.old.run) (held_of gathering.old.batch) → Records single.old.run.script start (K.held out.new) result }
-    ensures history { IfOk result (λ whole. IsLockstep single.old.run.script single.new.run.entries) }
-    ensures grows { K.faults out.old ≤ K.faults out.new }
-    ensures cause { WriteCause (K.faults out.old) (K.faults out.new) result }
+    ensures { RecordsRest K.Sink single.old.run.script (run_text single.old.run) (held_of gathering.old.batch) out.old out.new single.new.run.entries result }
 {
     'rounds: loop {
         match record_rounds(rt, painters, single, gathering, out) {
@@ -309,10 +303,7 @@ fn record_run<R: Threads + Sync, K: Sink>(
     out: &mut K,
 ) -> Result<(), PutFault>
     requires course { OnCourse inputs.now (walk_of single.old) }
-    ensures bytes { (start : Option (List ℕ)) → Half start (K.held out.old) (run_text single.old.run) (held_of gathering.old.batch) → Records single.old.run.script start (K.held out.new) result }
-    ensures history { IfOk result (λ whole. IsLockstep single.old.run.script single.new.run.entries) }
-    ensures grows { K.faults out.old ≤ K.faults out.new }
-    ensures cause { WriteCause (K.faults out.old) (K.faults out.new) result }
+    ensures { RecordsRest K.Sink single.old.run.script (run_text single.old.run) (held_of gathering.old.batch) out.old out.new single.new.run.entries result }
 {
     if let Err(stop) = record_inputs(rt, alloc, painters, single, inputs, gathering, out) {
         return Err(stop);
@@ -332,10 +323,7 @@ pub(crate) fn record_batches<R: Threads + Sync, K: Sink>(
     out: &mut K,
 ) -> Result<(), PutFault>
     requires { IsFresh script.now single.old }
-    ensures bytes { (start : Option (List ℕ)) → Half start (K.held out.old) (header (compact_text (parts_data script.now))) lines.items → Records script.now start (K.held out.new) result }
-    ensures history { IfOk result (λ whole. IsLockstep script.now single.new.run.entries) }
-    ensures grows { K.faults out.old ≤ K.faults out.new }
-    ensures cause { WriteCause (K.faults out.old) (K.faults out.new) result }
+    ensures { RecordsRest K.Sink script.now (header (compact_text (parts_data script.now))) lines.items out.old out.new single.new.run.entries result }
 {
     script.is_accepted();
     let mut painters: Painters<ImagePainter> = Painters::new(alloc, most);

@@ -1,8 +1,10 @@
 //! Plays a script in lockstep and writes its recording as it is made.
 //!
-//! A compositor on one thread plays what an input brings; then what it entered is written by `recording_writer`. So no
-//! more is held than two inputs bring, unless all entries are to be kept ([`Retention`]). With several workers it plays
-//! a batch of inputs while the batch before is painted and put.
+//! A compositor on one thread plays a part of the run: an input, or one round of an await or of the end. Then what it
+//! entered is written by `recording_writer`. Entries that came before the last two milestones of the run (`impl_log`)
+//! are forgotten once there are 4,096 of them, or once those that are kept list 65,536 tiles. So what is held grows with
+//! what a part brings, not with how many there are, unless all entries are to be kept ([`Retention`]). With several
+//! workers it plays a batch of parts while the batch before is painted and put.
 //!
 //! In: an accepted script and a sink. Out: the sink gained the script's recording, or if it failed or memory
 //! was refused, a prefix of it.

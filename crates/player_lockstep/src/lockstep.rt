@@ -12,7 +12,7 @@ ghost use Rattle.player_lockstep.specs.Recordings.{Records};
 ghost use Rattle.byte_io.specs.Pieces.{WriteCause};
 ghost use Rattle.recording_writer.specs.Parts.{Half, WritesPart};
 ghost use Rattle.recording_writer.specs.Repeats.{Keeps};
-ghost use Rattle.player_lockstep.specs.inner.Ways.{IsFresh, IsWritten, recorded_run};
+ghost use Rattle.player_lockstep.specs.inner.Ways.{IsFresh, IsWritten, RecordsRest, RecordsRun, recorded_run};
 
 use crate::batches::record_batches;
 use byte_io::{PutFault, Sink};
@@ -139,10 +139,7 @@ fn record_events<R: Threads + Sync, K: Sink>(
     requires fresh { IsFresh script.now single.old }
     requires none { recording.old.recorder.last.place ≡ None }
     requires half { (start : Option (List ℕ)) × Half start (K.held out.old) (header (compact_text (parts_data script.now))) recording.old.recorder.lines.items }
-    ensures bytes { (start : Option (List ℕ)) → Half start (K.held out.old) (header (compact_text (parts_data script.now))) recording.old.recorder.lines.items → Records script.now start (K.held out.new) result }
-    ensures history { IfOk result (λ whole. IsLockstep script.now single.new.run.entries) }
-    ensures grows { K.faults out.old ≤ K.faults out.new }
-    ensures cause { WriteCause (K.faults out.old) (K.faults out.new) result }
+    ensures { RecordsRest K.Sink script.now (header (compact_text (parts_data script.now))) recording.old.recorder.lines.items out.old out.new single.new.run.entries result }
 {
     script.is_accepted();
     if let Err(stop) = play_all(rt, single, script.inputs(), recording, out) {
@@ -163,10 +160,7 @@ fn record_history<R: Threads + Sync, K: Sink>(
     requires fresh { IsFresh script.now single.old }
     requires none { recording.old.recorder.last.place ≡ None }
     requires half { (start : Option (List ℕ)) × Half start (K.held out.old) (header (compact_text (parts_data script.now))) recording.old.recorder.lines.items }
-    ensures bytes { (start : Option (List ℕ)) → Half start (K.held out.old) (header (compact_text (parts_data script.now))) recording.old.recorder.lines.items → Records script.now start (K.held out.new) result }
-    ensures history { IfOk result (λ whole. IsLockstep script.now single.new.run.entries) }
-    ensures grows { K.faults out.old ≤ K.faults out.new }
-    ensures cause { WriteCause (K.faults out.old) (K.faults out.new) result }
+    ensures { RecordsRest K.Sink script.now (header (compact_text (parts_data script.now))) recording.old.recorder.lines.items out.old out.new single.new.run.entries result }
 {
     let parts = recording.recorder.parts();
     if parts < 2 {
@@ -197,10 +191,7 @@ fn record_whole<R: Threads + Sync, K: Sink>(
     requires name { recording.old.recorder.lines.items ≡ codes "cc1\n" }
     requires none { recording.old.recorder.last.place ≡ None }
     requires text { text.items ≡ compact_text (parts_data script.now) }
-    ensures bytes { Records script.now (K.held out.old) (K.held out.new) result }
-    ensures history { IfOk result (λ whole. IsLockstep script.now single.new.run.entries) }
-    ensures grows { K.faults out.old ≤ K.faults out.new }
-    ensures cause { WriteCause (K.faults out.old) (K.faults out.new) result }
+    ensures { RecordsRun K.Sink script.now out.old out.new (λ whole. single.new.run.entries) result }
 {
     script.is_accepted();
     let begun = recording.recorder.begin(out, text.as_slice());
@@ -232,10 +223,7 @@ fn record_with<R: Threads + Sync, K: Sink>(
     requires name { prepared.1.recorder.lines.items ≡ codes "cc1\n" }
     requires none { prepared.1.recorder.last.place ≡ None }
     requires text { prepared.2.items ≡ compact_text (parts_data script.now) }
-    ensures bytes { Records script.now (K.held out.old) (K.held out.new) result }
-    ensures history { IfOk result (IsLockstep script.now) }
-    ensures grows { K.faults out.old ≤ K.faults out.new }
-    ensures cause { WriteCause (K.faults out.old) (K.faults out.new) result }
+    ensures { RecordsRun K.Sink script.now out.old out.new (λ run. run) result }
 {
     let (mut single, mut recording, text) = prepared;
     let written = record_whole(rt, &mut recording, &mut single, script, text, out);

@@ -12,11 +12,15 @@ use Rattle.player_lockstep.proofs.batches.record_batches.Goals as goal
 pub record_run-requires-clause-course : goal.record_run-requires-clause-course
 record_run-requires-clause-course g c κs within = fresh_course c.args.script.now c.inputs.result.now c.args.single.now c.requires c.is_accepted.ensures.accepted c.inputs.ensures
 
-pub returns-clause-bytes : goal.returns-clause-bytes
-returns-clause-bytes g c = λ start half.
-    subst (λ (s : ScriptModel). Records {X = ⊤} s start (g.K.Sink.held c.record_run.new.out) c.record_run.result) (fresh_script c.args.script.now c.args.single.now c.requires)
-    (c.record_run.ensures.bytes start (fresh_half c.args.script.now c.args.single.now start _ c.args.lines.items _ c.requires c.new.ensures half))
-
-pub returns-clause-history : goal.returns-clause-history
-returns-clause-history g c =
-    subst (λ (s : ScriptModel). IfOk c.record_run.result (λ whole. IsLockstep s c.record_run.new.single.run.entries)) (fresh_script c.args.script.now c.args.single.now c.requires) c.record_run.ensures.history
+pub returns : goal.returns
+returns g c =
+    let run = c.record_run.ensures in
+    record {
+      bytes = λ start half.
+          subst (λ (s : ScriptModel). Records {X = ⊤} s start (g.K.Sink.held c.record_run.new.out) c.record_run.result) (fresh_script c.args.script.now c.args.single.now c.requires)
+          (run.bytes start (fresh_half c.args.script.now c.args.single.now start _ c.args.lines.items _ c.requires c.new.ensures half));
+      history =
+          subst (λ (s : ScriptModel). IfOk c.record_run.result (λ whole. IsLockstep s c.record_run.new.single.run.entries)) (fresh_script c.args.script.now c.args.single.now c.requires) run.history;
+      grows = run.grows;
+      cause = run.cause;
+    }
