@@ -44,7 +44,8 @@ BOUNDS = {
     "missing_lists": (Most((16, 1024, 60), (40, 96, 140), 2.5), Most((16, 1024, 300), (40, 140, 140), 6)),
     # `play` goes on until 256 MiB wait for its reader: here tiles, 4 MiB for each picture of one pixel.
     "slow_reader_tiles": (Most((16, 160), (40, 240, 520), 3), Most((16, 500), (40, 240, 600), 9)),
-    "await_frames": (Most((40, 1024), FEW, 5), Most((600, 1024), FEW, 40)),
+    # An await is written main frame by main frame. With `play` its lines wait for their reader.
+    "await_frames": (Most((80, 1024), (24, 28, 36), 4), Most((600, 1024), (18, 24, 150), 40)),
     # A tile keeps the list of items that it was made of: 10 KiB for each tile of a layer of 256 items.
     "list_versions": (Most((16, 60), (96, 128, 128), 5), Most((64, 200), (600, 800, 800), 60)),
     # A stamp of four bytes a place, in three trees: 12 MiB a layer of a million places.
