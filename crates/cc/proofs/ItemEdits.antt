@@ -20,7 +20,8 @@ use Rattle.page_layers.specs.Lists.{with_first_changed}
 use Rattle.page_layers.specs.Pages.{Page}
 use Rattle.page_layers.specs.Sound.{IsPage}
 use Rattle.page_layers.specs.Refusals.{has_layer}
-use Rattle.page_layers.specs.Effects.{with_layer_changed, page_after_command, layer_change_of, retiles, main_point, rects_of, item_rect_at}
+use Rattle.page_layers.specs.Effects.{with_layer_changed, page_after_command, layer_change_of, retiles, main_point, item_rect_at}
+use Rattle.page_layers.specs.IfThere.{rects_of}
 use Rattle.page_layers.specs.Outcomes.{Accepts, Outcome, ListsChange, HoldsOnly}
 use Rattle.page_layers.specs.Contents.{content_at, shows_at}
 use Rattle.page_layers.specs.Painting.{Items, folded, items_at, layer_before}

@@ -10,7 +10,7 @@ use Rattle.page_layers.specs.declared.moves.Move.{Move}
 use Rattle.page_layers.specs.declared.view.View.{View}
 use Rattle.page_layers.specs.TreePainting.{paint}
 use Rattle.page_layers.specs.Pages.{Page}
-use Rattle.page_layers.specs.Scrolls.{origin}
+use Rattle.page_properties.specs.OffsetMap.{origin}
 use Rattle.page_layers.specs.Effects.{scrolled_by, main_point, page_after_pulls}
 use Rattle.viz_canvas.specs.Canvases.{CanvasView}
 use Rattle.cc.specs.declared.kept_tile.KeptTile.{KeptTile}

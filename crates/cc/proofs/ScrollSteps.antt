@@ -9,7 +9,8 @@ use Rattle.page_properties.specs.Entries.{find, with_node_changed}
 use Rattle.page_properties.specs.Placement.{minus}
 use Rattle.page_layers.specs.Pages.{Page}
 use Rattle.page_layers.specs.Sound.{IsPage}
-use Rattle.page_layers.specs.Scrolls.{origin, or_origin}
+use Rattle.page_layers.specs.Scrolls.{or_origin}
+use Rattle.page_properties.specs.OffsetMap.{origin}
 use Rattle.page_layers.specs.Effects.{scrolled_by, main_point, clamped_in}
 use Rattle.page_properties.proofs.Families.{find_changed}
 use Rattle.page_layers.proofs.NodeKeeps.{not_changed, values-known, clamp_again}

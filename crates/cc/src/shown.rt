@@ -1,7 +1,7 @@
 //! What is known of the frame and of the pages after scrolls.
 
 ghost use Rattle.std.specs.Prelude.{◌≡◌, [], true, Some, map, IfSome, IsTrue};
-ghost use Rattle.page_layers.specs.Scrolls.{origin};
+ghost use Rattle.page_properties.specs.OffsetMap.{origin};
 ghost use Rattle.page_hit_test.specs.Wheels.{part_move};
 
 use geom::Point;

@@ -8,7 +8,8 @@ use Rattle.page_properties.specs.OffsetMap.{offset_at}
 use Rattle.page_layers.specs.Pages.{Page}
 use Rattle.page_layers.specs.Hits.{target}
 use Rattle.page_layers.specs.Axes.{Axis, across, down, along}
-use Rattle.page_layers.specs.Scrolls.{IsInRange, origin}
+use Rattle.page_layers.specs.Scrolls.{IsInRange}
+use Rattle.page_properties.specs.OffsetMap.{origin}
 use Rattle.page_layers.specs.Scrollers.{has_scroller, most, amount_taken}
 use Rattle.page_hit_test.specs.declared.wheels.Wheel.{Wheel}
 use Rattle.page_hit_test.specs.Wheels.{part_move, AreWithinRanges, IsAmount, IsWheel}

@@ -8,7 +8,8 @@ use Rattle.geom.specs.declared.rect.Point.{Point}
 use Rattle.page_properties.specs.OffsetMap.{IsOffset}
 use Rattle.page_layers.specs.Pages.{Page}
 use Rattle.page_layers.specs.Axes.{Axis, across, down}
-use Rattle.page_layers.specs.Scrolls.{origin, IsInRange}
+use Rattle.page_layers.specs.Scrolls.{IsInRange}
+use Rattle.page_properties.specs.OffsetMap.{origin}
 use Rattle.page_layers.specs.Scrollers.{has_scroller, most, offsets_in}
 use Rattle.model_states.specs.Table.{zero as nothing}
 use Rattle.model_history.proofs.BoolFacts.{same_number}

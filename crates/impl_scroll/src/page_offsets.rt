@@ -4,7 +4,7 @@ ghost use Rattle.std.specs.Prelude.{◌≡◌, ℕ, IfOk, option_copied};
 ghost use Rattle.model_states.specs.Bounds.{IsBounded};
 ghost use Rattle.page_properties.specs.OffsetMap.{offset_at, AreOffsets};
 ghost use Rattle.page_layers.specs.Axes.{Axis};
-ghost use Rattle.page_layers.specs.Scrolls.{origin};
+ghost use Rattle.page_properties.specs.OffsetMap.{origin};
 ghost use Rattle.impl_scroll.specs.Rows.{row_value};
 ghost use Rattle.impl_scroll.specs.inner.Places.{at_active, at_pending, offsets_where, AreInRange};
 

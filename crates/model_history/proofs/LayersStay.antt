@@ -11,7 +11,7 @@ use Rattle.page_layers.specs.Tests.{require}
 use Rattle.page_layers.specs.Layers.{PageLayer, has_id, with_size, with_colour, with_items}
 use Rattle.page_layers.specs.Lists.{with_first_changed}
 use Rattle.page_layers.specs.Pages.{Page}
-use Rattle.page_layers.specs.Refusals.{has_layer, test_of, add_layer_test}
+use Rattle.page_layers.specs.Refusals.{has_layer, test_of}
 use Rattle.page_layers.specs.Sound.{IsLayer, IsPage, is_used}
 use Rattle.page_layers.specs.Effects.{page_after_command, commanded}
 use Rattle.page_layers.specs.Outcomes.{Accepts}
@@ -52,8 +52,8 @@ pub record IsGone (id : ℕ) (p : Page) : Type 0 where
   pub none : has_layer id p.layers ≡ false
 
 -- a new layer has an id that was never used
-added_other : (p : Page) (l : PageLayer) (at id : ℕ) → add_layer_test p l at ≡ Ok tt → is_used id p.used ≡ true → (l.id == id) ≡ false
-unfolding add_layer_test
+added_other : (p : Page) (l : PageLayer) (at id : ℕ) → test_of p (command.AddLayer (record { id = l.id; at = at; transform = l.transform; clip = l.clip; effect = l.effect; w = l.w; h = l.h; colour = l.colour })) ≡ Ok tt → is_used id p.used ≡ true → (l.id == id) ≡ false
+unfolding test_of
 added_other p l at id ok used =
     let known = passed (require (is_known l.transform p.props.transforms && is_known l.clip p.props.clips && is_known l.effect p.props.effects) fault.UnknownId) _ tt ok in
     let unused = passed (require (not (list_any (λ u. u == l.id) p.used)) fault.IdUsed) _ tt known.2 in

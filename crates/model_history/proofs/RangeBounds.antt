@@ -8,7 +8,7 @@ use Rattle.page_layers.specs.declared.fault.EditFault.TheVariants as fault
 use Rattle.page_layers.specs.declared.command.Command.{Command}
 use Rattle.page_layers.specs.declared.command.Command.TheVariants as command
 use Rattle.page_layers.specs.Tests.{require}
-use Rattle.page_layers.specs.Refusals.{takes, test_of, add_scroller_test, set_range_test}
+use Rattle.page_layers.specs.Refusals.{takes, test_of}
 use Rattle.page_layers.specs.Pages.{Page}
 use Rattle.page_layers.specs.Effects.{page_after_command, commanded}
 use Rattle.page_layers.proofs.TestFacts.{passed, scroll_range_facts}
@@ -39,15 +39,15 @@ short_node parent x y a b across = a
 short_node parent x y a b down = b
 
 -- a range that passes the tests
-add_range : (p : Page) (id parent x y : ℕ) → add_scroller_test p id parent x y ≡ Ok tt → (x ≤ 1048576) × (y ≤ 1048576)
-unfolding add_scroller_test
+add_range : (p : Page) (id parent x y : ℕ) → test_of p (command.AddScroller (record { id = id; parent = parent; max_x = x; max_y = y })) ≡ Ok tt → (x ≤ 1048576) × (y ≤ 1048576)
+unfolding test_of
 add_range p id parent x y ok =
     let known = passed (require (is_known parent p.props.scrollers) fault.UnknownId) _ tt ok in
     let fresh = passed (takes id p.props.scrollers) _ tt known.2 in
     scroll_range_facts x y fresh.2
 
-set_range : (p : Page) (id x y : ℕ) → set_range_test p id x y ≡ Ok tt → (x ≤ 1048576) × (y ≤ 1048576)
-unfolding set_range_test
+set_range : (p : Page) (id x y : ℕ) → test_of p (command.SetRange (record { id = id; max_x = x; max_y = y })) ≡ Ok tt → (x ≤ 1048576) × (y ≤ 1048576)
+unfolding test_of
 set_range p id x y ok = let known = passed (require (knows id p.props.scrollers) fault.UnknownId) _ tt ok in scroll_range_facts x y known.2
 
 added_short : (b : Bool) (node : ScrollNode) (o : Option ScrollNode) (ax : Axis) → end_of (Some node) ax ≤ 1048576 → end_of o ax ≤ 1048576 → end_of (cond b (Some node) o) ax ≤ 1048576

@@ -6,7 +6,7 @@ use Rattle.page_layers.specs.declared.fault.EditFault.TheVariants as fault
 use Rattle.page_layers.specs.declared.command.Command.{Command}
 use Rattle.page_layers.specs.declared.command.Command.TheVariants as command
 use Rattle.page_layers.specs.Tests.{require}
-use Rattle.page_layers.specs.Refusals.{takes, test_of, add_scroller_test}
+use Rattle.page_layers.specs.Refusals.{takes, test_of}
 use Rattle.page_layers.specs.Pages.{Page}
 use Rattle.page_layers.specs.Effects.{page_after_command, scrolled_by, page_after_pulls, commanded}
 use Rattle.page_layers.proofs.TestFacts.{passed, held, is_not}
@@ -72,8 +72,8 @@ distinct_changed id f (e ∷ older) d = go (e.0 == id) (distinct_changed id f ol
     go true rest = d
     go false rest = (knows_changed id e.0 f older ∙ d.0, rest)
 
-fresh_id : (p : Page) (id parent x y : ℕ) → add_scroller_test p id parent x y ≡ Ok tt → knows id p.props.scrollers ≡ false
-unfolding add_scroller_test takes
+fresh_id : (p : Page) (id parent x y : ℕ) → test_of p (command.AddScroller (record { id = id; parent = parent; max_x = x; max_y = y })) ≡ Ok tt → knows id p.props.scrollers ≡ false
+unfolding test_of takes
 fresh_id p id parent x y ok =
     let known = passed (require (is_known parent p.props.scrollers) fault.UnknownId) _ tt ok in
     let rest = passed (takes id p.props.scrollers) _ tt known.2 in

@@ -1,8 +1,9 @@
 -- Where the scrollers of both trees stand, by the five values.
-use Rattle.std.proofs.Common.{◌≡◌, ℕ, ℤ, ◌-ℤ◌, true, false, cond, List, refl, sym, ◌∙◌, ap}
+use Rattle.std.proofs.Common.{◌≡◌, ℕ, ℤ, pos, ◌-ℤ◌, true, false, cond, List, refl, sym, ◌∙◌, ap}
+use Rattle.geom.specs.declared.rect.Point.{Point}
 use Rattle.model_states.specs.declared.Synced.{Synced}
 use Rattle.model_states.specs.Table.{pending_value}
-use Rattle.page_layers.specs.Scrolls.{clamp_to, origin}
+use Rattle.page_layers.specs.Scrolls.{clamp_to}
 use Rattle.page_layers.specs.Pages.{Page}
 use Rattle.page_layers.specs.Axes.{Axis, across, down}
 use Rattle.page_layers.specs.Scrollers.{has_scroller, most, offsets_in, amount_taken}
@@ -15,6 +16,10 @@ use Rattle.model_history.specs.Legal.{Legal}
 use Rattle.model_history.proofs.ValueSums.{are_sums}
 use Rattle.model_history.proofs.ValueReadings.{active_is_value, offset_then_is_value}
 use Rattle.model_steps.specs.Standing.{active_at, pending_at, clamped_by}
+
+-- where a scroller stands that a page lacks
+abbrev origin : Point
+origin = record { x = pos 0; y = pos 0 }
 
 -- pages that are one, with scrollers that stand at the same numbers, have the same offsets
 pub same_offsets : (p q : Page) (f g : ℕ → Axis → ℤ) → p ≡ q → ((sc : ℕ) (ax : Axis) → has_scroller q sc ≡ true → f sc ax ≡ g sc ax) → offsets_in p f ≡ offsets_in q g

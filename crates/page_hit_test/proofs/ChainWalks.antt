@@ -9,7 +9,7 @@ use Rattle.page_properties.proofs.Chains.{gathered_law, parent_older, known_othe
 use Rattle.page_layers.specs.Layers.{PageLayer}
 use Rattle.page_layers.specs.Pages.{Page}
 use Rattle.page_layers.specs.Hits.{nearest_scroller, scrollers_from, chain}
-use Rattle.page_layers.specs.Wheels.{chain_or_none}
+use Rattle.page_layers.specs.IfThere.{chain_or_none}
 
 -- how many nodes stand from the oldest up to that of an id; 0 where it has none
 abbrev pub age : {N : Type 0} → List (ℕ × N) → ℕ → ℕ

@@ -20,7 +20,7 @@ use Rattle.page_layers.specs.Tests.{require, is_id}
 use Rattle.page_layers.specs.Layers.{PageLayer, has_id, with_size, with_colour, with_items}
 use Rattle.page_layers.specs.Pages.{Page, IsView}
 use Rattle.page_layers.specs.Scrolls.{IsInRange, AreInRange}
-use Rattle.page_layers.specs.Refusals.{has_layer, takes, test_of, add_effect_test, add_scroller_test, set_range_test, add_layer_test, resize_layer_test, move_layer_test, set_view_test}
+use Rattle.page_layers.specs.Refusals.{has_layer, takes, test_of}
 use Rattle.page_layers.specs.Effects.{page_after_command, with_layer_changed, scrolled_to, clamped_in, main_point}
 use Rattle.page_layers.specs.Outcomes.{StandTogether}
 use Rattle.page_layers.specs.inner.Tested.{may_part}
@@ -115,7 +115,7 @@ effects-known props used [] all = tt
 effects-known props used (l ∷ ls) all = (all.0.effect, effects-known props used ls all.1)
 
 after-add_effect : (p : Page) (id parent opacity : ℕ) → IsPage p → test_of p (command.AddEffect (record { id = id; parent = parent; opacity = opacity })) ≡ Ok tt → IsPage (page_after_command p (command.AddEffect (record { id = id; parent = parent; opacity = opacity })))
-unfolding add_effect_test takes
+unfolding test_of takes
 after-add_effect p id parent opacity h ok =
     let known = passed (require (is_known parent p.props.effects) fault.UnknownId) _ tt ok in
     let rest = passed (takes id p.props.effects) _ tt known.2 in
@@ -142,7 +142,7 @@ after-scrolled p id x y h = record {
 }
 
 after-set_range : (p : Page) (id max_x max_y : ℕ) → IsPage p → test_of p (command.SetRange (record { id = id; max_x = max_x; max_y = max_y })) ≡ Ok tt → IsPage (page_after_command p (command.SetRange (record { id = id; max_x = max_x; max_y = max_y })))
-unfolding set_range_test
+unfolding test_of
 after-set_range p id max_x max_y h ok =
     let known = passed (require (knows id p.props.scrollers) fault.UnknownId) _ tt ok in
     let node = known_found id p.props.scrollers (held (knows id p.props.scrollers) fault.UnknownId known.1) in
@@ -152,7 +152,7 @@ after-set_range p id max_x max_y h ok =
     after-scrollers p ranges _ (values-ranged id max_x max_y (clamped_in (find id ranges) (main_point p id).x (main_point p id).y) p.props.scrollers p.values fits.0 fits.1 h.values) h
 
 after-add_scroller : (p : Page) (id parent max_x max_y : ℕ) → IsPage p → test_of p (command.AddScroller (record { id = id; parent = parent; max_x = max_x; max_y = max_y })) ≡ Ok tt → IsPage (page_after_command p (command.AddScroller (record { id = id; parent = parent; max_x = max_x; max_y = max_y })))
-unfolding add_scroller_test
+unfolding test_of
 after-add_scroller p id parent max_x max_y h ok =
     let known = passed (require (is_known parent p.props.scrollers) fault.UnknownId) _ tt ok in
     let new = passed (takes id p.props.scrollers) _ tt known.2 in
@@ -173,7 +173,7 @@ after-layer p id f ids effects fits h = record {
 }
 
 after-resize_layer : (p : Page) (id w h : ℕ) → IsPage p → test_of p (command.ResizeLayer (record { id = id; w = w; h = h })) ≡ Ok tt → IsPage (page_after_command p (command.ResizeLayer (record { id = id; w = w; h = h })))
-unfolding resize_layer_test
+unfolding test_of
 after-resize_layer p id w h' h ok =
     let known = passed (require (has_layer id p.layers) fault.UnknownId) _ tt ok in
     after-layer p id (with_size w h') (λ l. refl) (λ l. refl) (λ l k. record { transform = k.transform; clip = k.clip; effect = k.effect; id_used = k.id_used; id = k.id; size = known.2 }) h
@@ -193,7 +193,7 @@ after-remove_layer p id h = record {
 }
 
 after-move_layer : (p : Page) (id at : ℕ) → IsPage p → test_of p (command.MoveLayer (record { id = id; at = at })) ≡ Ok tt → StandTogether (page_after_command p (command.MoveLayer (record { id = id; at = at }))) → IsPage (page_after_command p (command.MoveLayer (record { id = id; at = at })))
-unfolding move_layer_test
+unfolding test_of
 after-move_layer p id at h ok stand =
     let known = passed (require (has_layer id p.layers) fault.UnknownId) _ tt ok in
     let below : nat_lt at (length p.layers) ≡ true = held (nat_lt at (length p.layers)) fault.BadPlace known.2 in
@@ -206,8 +206,8 @@ after-move_layer p id at h ok stand =
       values = h.values;
     }
 
-after-add_layer : (p : Page) (l : PageLayer) (at : ℕ) → IsPage p → add_layer_test p l at ≡ Ok tt → AreNested p.props.effects (map (λ k. k.effect) (insert p.layers at l)) → IsPage (record p { layers = insert p.layers at l; used = p.used ++ l.id ∷ [] })
-unfolding add_layer_test
+after-add_layer : (p : Page) (l : PageLayer) (at : ℕ) → IsPage p → test_of p (command.AddLayer (record { id = l.id; at = at; transform = l.transform; clip = l.clip; effect = l.effect; w = l.w; h = l.h; colour = l.colour })) ≡ Ok tt → AreNested p.props.effects (map (λ k. k.effect) (insert p.layers at l)) → IsPage (record p { layers = insert p.layers at l; used = p.used ++ l.id ∷ [] })
+unfolding test_of
 after-add_layer p l at h ok stand =
     let known = passed (require (is_known l.transform p.props.transforms && is_known l.clip p.props.clips && is_known l.effect p.props.effects) fault.UnknownId) _ tt ok in
     let unused = passed (require (not (list_any (λ id. id == l.id) p.used)) fault.IdUsed) _ tt known.2 in
@@ -229,9 +229,9 @@ after-add_layer p l at h ok stand =
       values = h.values;
     }
 
-after-set_view : (p : Page) (w h tile : ℕ) → IsPage p → set_view_test w h tile ≡ Ok tt → IsPage (page_after_command p (command.SetView (record { w = w; h = h; tile = tile })))
+after-set_view : (p : Page) (w h tile : ℕ) → IsPage p → test_of p (command.SetView (record { w = w; h = h; tile = tile })) ≡ Ok tt → IsPage (page_after_command p (command.SetView (record { w = w; h = h; tile = tile })))
 after-set_view p w h tile k ok = record {
-  view = view_facts w h tile ok;
+  view = view_facts p w h tile ok;
   few = k.few;
   layers = k.layers;
   distinct = k.distinct;

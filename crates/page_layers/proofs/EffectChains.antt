@@ -6,7 +6,8 @@ use Rattle.page_properties.specs.Entries.{find}
 use Rattle.page_properties.specs.Trees.{AreEffects, IsEffect}
 use Rattle.page_properties.proofs.Chains.{gathered_law, parent_older, known_other}
 use Rattle.page_layers.specs.declared.paint.Group.{Group}
-use Rattle.page_layers.specs.TreePainting.{groups_in, opacity_in, opacity_or_255}
+use Rattle.page_layers.specs.TreePainting.{groups_in, opacity_in}
+use Rattle.page_layers.specs.IfThere.{opacity_or_255}
 
 -- how many nodes stand from the oldest up to that of an effect; 0 where it has none
 abbrev pub rank : List (ℕ × EffectNode) → ℕ → ℕ

@@ -7,7 +7,8 @@ use Rattle.page_layers.specs.declared.layer.Layer.{Layer}
 use Rattle.page_layers.specs.Layers.{PageLayer, parts_of, has_id, with_items, put_at, with_layer_moved}
 use Rattle.page_layers.specs.inner.FoundPlaces.{StandsAt}
 use Rattle.page_layers.specs.Lists.{with_first_changed, without_first}
-use Rattle.page_layers.specs.Refusals.{count_in, item_count}
+use Rattle.page_layers.specs.Refusals.{item_count}
+use Rattle.page_layers.specs.IfThere.{count_in}
 use Rattle.page_display_list.specs.declared.item.Item.{Item}
 use Rattle.page_layers.proofs.LayerKeeps.{nothing_taken}
 use Rattle.page_layers.proofs.ListEdits.{changed_at, removed_at, found_at, placed, place-map, map-remove, map-insert}

@@ -18,7 +18,8 @@ use Rattle.page_layers.specs.declared.fault.EditFault.TheVariants as fault
 use Rattle.page_layers.specs.Tests.{◌>>=◌, require, check_range, is_id}
 use Rattle.page_layers.specs.Pages.{Page, IsView}
 use Rattle.page_layers.specs.Layers.{PageLayer, has_id}
-use Rattle.page_layers.specs.Refusals.{is_offset, is_clip_rect, is_item_rect, is_scroll_range, takes, count_in, item_count, add_transform_test, set_transform_test, add_clip_test, set_clip_test, add_effect_test, set_opacity_test, add_scroller_test, set_range_test, scroll_by_test, scroll_to_test, remove_layer_test, resize_layer_test, set_colour_test, insert_item_test, remove_item_test, replace_item_test, set_view_test, move_layer_test, add_layer_test, has_layer, test_of}
+use Rattle.page_layers.specs.Refusals.{is_offset, is_clip_rect, is_item_rect, is_scroll_range, takes, item_count, test_of, has_layer}
+use Rattle.page_layers.specs.IfThere.{count_in}
 
 -- both tests of a chain passed
 pub passed : {A B : Type 0} (r : Result A EditFault) (k : A → Result B EditFault) (y : B) → (r >>= k) ≡ Ok y → (x : A) × (r ≡ Ok x) × (k x ≡ Ok y)
@@ -121,9 +122,9 @@ takes_facts id nodes ok =
     let range = count_facts id 1 65535 room.2 in
     record { fresh = is_not (knows id nodes) (held (not (knows id nodes)) fault.IdUsed new.1); few = grind (arith, nat_tests, few); low = range.0; high = range.1 }
 
-pub add_transform_facts : (p : Page) (id parent : ℕ) (x y : ℤ) (scroller : ℕ) → add_transform_test p id parent x y scroller ≡ Ok tt
+pub add_transform_facts : (p : Page) (id parent : ℕ) (x y : ℤ) (scroller : ℕ) → test_of p (command.AddTransform (record { id = id; parent = parent; x = x; y = y; scroller = scroller })) ≡ Ok tt
     → MayJoinTransforms id (record { parent = parent; x = x; y = y; scroller = scroller }) p.props.transforms × (is_known scroller p.props.scrollers ≡ true)
-unfolding add_transform_test
+unfolding test_of
 add_transform_facts p id parent x y scroller ok =
     let known = passed (require (is_known parent p.props.transforms && is_known scroller p.props.scrollers) fault.UnknownId) _ tt ok in
     let names = both (is_known parent p.props.transforms) (is_known scroller p.props.scrollers) (held _ fault.UnknownId known.1) in
@@ -132,16 +133,16 @@ add_transform_facts p id parent x y scroller ok =
     let near = offset_facts x y new.2 in
     (record { fresh = t.fresh; id_low = t.low; id_high = t.high; few = t.few; parent_known = names.0; in_range = record { across = near.0; down = near.1 } }, names.1)
 
-pub set_transform_facts : (p : Page) (id : ℕ) (x y : ℤ) → set_transform_test p id x y ≡ Ok tt → (knows id p.props.transforms ≡ true) × IsNearParent x × IsNearParent y
-unfolding set_transform_test
+pub set_transform_facts : (p : Page) (id : ℕ) (x y : ℤ) → test_of p (command.SetTransform (record { id = id; x = x; y = y })) ≡ Ok tt → (knows id p.props.transforms ≡ true) × IsNearParent x × IsNearParent y
+unfolding test_of
 set_transform_facts p id x y ok =
     let known = passed (require (knows id p.props.transforms) fault.UnknownId) _ tt ok in
     let near = offset_facts x y known.2 in
     (held (knows id p.props.transforms) fault.UnknownId known.1, near.0, near.1)
 
-pub add_clip_facts : (p : Page) (id parent transform : ℕ) (rect : Rect) → add_clip_test p id parent transform rect ≡ Ok tt
+pub add_clip_facts : (p : Page) (id parent transform : ℕ) (rect : Rect) → test_of p (command.AddClip (record { id = id; parent = parent; transform = transform; rect = rect })) ≡ Ok tt
     → MayJoinClips id (record { parent = parent; transform = transform; rect = rect }) p.props.clips × (is_known transform p.props.transforms ≡ true)
-unfolding add_clip_test
+unfolding test_of
 add_clip_facts p id parent transform rect ok =
     let known = passed (require (is_known parent p.props.clips && is_known transform p.props.transforms) fault.UnknownId) _ tt ok in
     let names = both (is_known parent p.props.clips) (is_known transform p.props.transforms) (held _ fault.UnknownId known.1) in
@@ -149,15 +150,15 @@ add_clip_facts p id parent transform rect ok =
     let t = takes_facts id p.props.clips new.1 in
     (record { fresh = t.fresh; id_low = t.low; id_high = t.high; few = t.few; parent_known = names.0; in_range = clip_rect_facts rect new.2 }, names.1)
 
-pub set_clip_facts : (p : Page) (id : ℕ) (rect : Rect) → set_clip_test p id rect ≡ Ok tt → (knows id p.props.clips ≡ true) × IsClipRect rect
-unfolding set_clip_test
+pub set_clip_facts : (p : Page) (id : ℕ) (rect : Rect) → test_of p (command.SetClip (record { id = id; rect = rect })) ≡ Ok tt → (knows id p.props.clips ≡ true) × IsClipRect rect
+unfolding test_of
 set_clip_facts p id rect ok =
     let known = passed (require (knows id p.props.clips) fault.UnknownId) _ tt ok in
     (held (knows id p.props.clips) fault.UnknownId known.1, clip_rect_facts rect known.2)
 
-pub add_effect_facts : (p : Page) (id parent opacity : ℕ) → add_effect_test p id parent opacity ≡ Ok tt
+pub add_effect_facts : (p : Page) (id parent opacity : ℕ) → test_of p (command.AddEffect (record { id = id; parent = parent; opacity = opacity })) ≡ Ok tt
     → MayJoinEffects id (record { parent = parent; opacity = opacity }) p.props.effects × (opacity ≤ 255)
-unfolding add_effect_test
+unfolding test_of
 add_effect_facts p id parent opacity ok =
     let known = passed (require (is_known parent p.props.effects) fault.UnknownId) _ tt ok in
     let new = passed (takes id p.props.effects) _ tt known.2 in
@@ -165,15 +166,15 @@ add_effect_facts p id parent opacity ok =
     let range = count_facts opacity 0 255 new.2 in
     (record { fresh = t.fresh; id_low = t.low; id_high = t.high; few = t.few; parent_known = held (is_known parent p.props.effects) fault.UnknownId known.1; in_range = tt }, range.1)
 
-pub set_opacity_facts : (p : Page) (id opacity : ℕ) → set_opacity_test p id opacity ≡ Ok tt → (knows id p.props.effects ≡ true) × (opacity ≤ 255)
-unfolding set_opacity_test
+pub set_opacity_facts : (p : Page) (id opacity : ℕ) → test_of p (command.SetOpacity (record { id = id; opacity = opacity })) ≡ Ok tt → (knows id p.props.effects ≡ true) × (opacity ≤ 255)
+unfolding test_of
 set_opacity_facts p id opacity ok =
     let known = passed (require (knows id p.props.effects) fault.UnknownId) _ tt ok in
     (held (knows id p.props.effects) fault.UnknownId known.1, (count_facts opacity 0 255 known.2).1)
 
-pub add_scroller_facts : (p : Page) (id parent max_x max_y : ℕ) → add_scroller_test p id parent max_x max_y ≡ Ok tt
+pub add_scroller_facts : (p : Page) (id parent max_x max_y : ℕ) → test_of p (command.AddScroller (record { id = id; parent = parent; max_x = max_x; max_y = max_y })) ≡ Ok tt
     → MayJoinScrollers id (record { parent = parent; max_x = max_x; max_y = max_y }) p.props.scrollers
-unfolding add_scroller_test
+unfolding test_of
 add_scroller_facts p id parent max_x max_y ok =
     let known = passed (require (is_known parent p.props.scrollers) fault.UnknownId) _ tt ok in
     let new = passed (takes id p.props.scrollers) _ tt known.2 in
@@ -181,8 +182,8 @@ add_scroller_facts p id parent max_x max_y ok =
     let size = scroll_range_facts max_x max_y new.2 in
     record { fresh = t.fresh; id_low = t.low; id_high = t.high; few = t.few; parent_known = held (is_known parent p.props.scrollers) fault.UnknownId known.1; in_range = record { across = size.0; down = size.1 } }
 
-pub set_range_facts : (p : Page) (id max_x max_y : ℕ) → set_range_test p id max_x max_y ≡ Ok tt → (knows id p.props.scrollers ≡ true) × (max_x ≤ 1048576) × (max_y ≤ 1048576)
-unfolding set_range_test
+pub set_range_facts : (p : Page) (id max_x max_y : ℕ) → test_of p (command.SetRange (record { id = id; max_x = max_x; max_y = max_y })) ≡ Ok tt → (knows id p.props.scrollers ≡ true) × (max_x ≤ 1048576) × (max_y ≤ 1048576)
+unfolding test_of
 set_range_facts p id max_x max_y ok =
     let known = passed (require (knows id p.props.scrollers) fault.UnknownId) _ tt ok in
     let size = scroll_range_facts max_x max_y known.2 in
@@ -195,8 +196,8 @@ count_found : (o : Option PageLayer) (n : ℕ) (P : ℕ → Type 0) → count_in
 count_found None n P e h = absurd (cc)
 count_found (Some l) n P e h = let same : length l.items ≡ n = cc in subst P (sym same) h
 
-pub insert_item_facts : (p : Page) (layer at : ℕ) (item : Item) → insert_item_test p layer at item ≡ Ok tt → IfSome (find (has_id layer) p.layers) (λ l. (at ≤ length l.items) × (length l.items < 256)) × IsSound (rect_of_item item)
-unfolding insert_item_test
+pub insert_item_facts : (p : Page) (layer at : ℕ) (item : Item) → test_of p (command.InsertItem (record { layer = layer; at = at; item = item })) ≡ Ok tt → IfSome (find (has_id layer) p.layers) (λ l. (at ≤ length l.items) × (length l.items < 256)) × IsSound (rect_of_item item)
+unfolding test_of
 insert_item_facts p layer at item ok =
     let count = passed (item_count layer p.layers) _ tt ok in
     let place = passed (require (nat_le at count.0) fault.BadPlace) _ tt count.2 in
@@ -207,16 +208,16 @@ insert_item_facts p layer at item ok =
     let b : count.0 < 256 = grind (arith, nat_tests, few) in
     (count_found (find (has_id layer) p.layers) count.0 (λ (n : ℕ). (at ≤ n) × (n < 256)) count.1 (a, b), item_rect_facts (rect_of_item item) room.2)
 
-pub remove_item_facts : (p : Page) (layer at : ℕ) → remove_item_test p layer at ≡ Ok tt → IfSome (find (has_id layer) p.layers) (λ l. at < length l.items)
-unfolding remove_item_test
+pub remove_item_facts : (p : Page) (layer at : ℕ) → test_of p (command.RemoveItem (record { layer = layer; at = at })) ≡ Ok tt → IfSome (find (has_id layer) p.layers) (λ l. at < length l.items)
+unfolding test_of
 remove_item_facts p layer at ok =
     let count = passed (item_count layer p.layers) _ tt ok in
     let below : nat_lt at count.0 ≡ true = held (nat_lt at count.0) fault.BadPlace count.2 in
     let a : at < count.0 = grind (arith, nat_tests, below) in
     count_found (find (has_id layer) p.layers) count.0 (λ (n : ℕ). at < n) count.1 a
 
-pub replace_item_facts : (p : Page) (layer at : ℕ) (item : Item) → replace_item_test p layer at item ≡ Ok tt → IfSome (find (has_id layer) p.layers) (λ l. at < length l.items) × IsSound (rect_of_item item)
-unfolding replace_item_test
+pub replace_item_facts : (p : Page) (layer at : ℕ) (item : Item) → test_of p (command.ReplaceItem (record { layer = layer; at = at; item = item })) ≡ Ok tt → IfSome (find (has_id layer) p.layers) (λ l. at < length l.items) × IsSound (rect_of_item item)
+unfolding test_of
 replace_item_facts p layer at item ok =
     let count = passed (item_count layer p.layers) _ tt ok in
     let place = passed (require (nat_lt at count.0) fault.BadPlace) _ tt count.2 in
@@ -224,9 +225,9 @@ replace_item_facts p layer at item ok =
     let a : at < count.0 = grind (arith, nat_tests, below) in
     (count_found (find (has_id layer) p.layers) count.0 (λ (n : ℕ). at < n) count.1 a, item_rect_facts (rect_of_item item) place.2)
 
-pub view_facts : (w h tile : ℕ) → set_view_test w h tile ≡ Ok tt → IsView (record { w = w; h = h; tile = tile })
-unfolding set_view_test
-view_facts w h tile ok =
+pub view_facts : (p : Page) (w h tile : ℕ) → test_of p (command.SetView (record { w = w; h = h; tile = tile })) ≡ Ok tt → IsView (record { w = w; h = h; tile = tile })
+unfolding test_of
+view_facts p w h tile ok =
     let first = passed (check_range (pos w) (pos 1) (pos 2048)) _ tt ok in
     let second = passed (check_range (pos h) (pos 1) (pos 2048)) _ tt first.2 in
     let a = count_facts w 1 2048 first.1 in
@@ -234,15 +235,15 @@ view_facts w h tile ok =
     let c = count_facts tile 16 256 second.2 in
     record { w_low = a.0; w_high = a.1; h_low = b.0; h_high = b.1; tile_low = c.0; tile_high = c.1 }
 
-pub move_layer_facts : (p : Page) (id at : ℕ) → move_layer_test p id at ≡ Ok tt → at < length p.layers
-unfolding move_layer_test
+pub move_layer_facts : (p : Page) (id at : ℕ) → test_of p (command.MoveLayer (record { id = id; at = at })) ≡ Ok tt → at < length p.layers
+unfolding test_of
 move_layer_facts p id at ok =
     let known = passed (require (has_layer id p.layers) fault.UnknownId) _ tt ok in
     let below : nat_lt at (length p.layers) ≡ true = held (nat_lt at (length p.layers)) fault.BadPlace known.2 in
     grind (arith, nat_tests, below)
 
-pub add_layer_facts : (p : Page) (l : PageLayer) (at : ℕ) → add_layer_test p l at ≡ Ok tt → at ≤ length p.layers
-unfolding add_layer_test
+pub add_layer_facts : (p : Page) (l : PageLayer) (at : ℕ) → test_of p (command.AddLayer (record { id = l.id; at = at; transform = l.transform; clip = l.clip; effect = l.effect; w = l.w; h = l.h; colour = l.colour })) ≡ Ok tt → at ≤ length p.layers
+unfolding test_of
 add_layer_facts p l at ok =
     let known = passed (require (is_known l.transform p.props.transforms && is_known l.clip p.props.clips && is_known l.effect p.props.effects) fault.UnknownId) _ tt ok in
     let unused = passed (require (not (list_any (λ id. id == l.id) p.used)) fault.IdUsed) _ tt known.2 in
@@ -254,6 +255,6 @@ add_layer_facts p l at ok =
 
 -- a page takes the same commands whatever its main values are
 pub test_values : (p : Page) (vs : List (ℕ × Point)) (c : Command) → test_of (record p { values = vs }) c ≡ test_of p c
-unfolding add_transform_test set_transform_test add_clip_test set_clip_test add_effect_test set_opacity_test add_scroller_test set_range_test scroll_by_test scroll_to_test add_layer_test remove_layer_test resize_layer_test set_colour_test insert_item_test remove_item_test replace_item_test move_layer_test
+unfolding test_of
 test_values p vs (command.AddTransform c) = refl
 test_values p vs _ = refl

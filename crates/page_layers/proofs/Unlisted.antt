@@ -15,8 +15,9 @@ use Rattle.page_layers.specs.Tests.{◌>>=◌, require}
 use Rattle.page_layers.specs.Layers.{PageLayer, has_id, with_size, with_colour, with_items}
 use Rattle.page_layers.specs.Lists.{with_first_changed, without_first}
 use Rattle.page_layers.specs.Pages.{Page}
-use Rattle.page_layers.specs.Refusals.{has_layer, item_count, count_in, test_of, remove_item_test, replace_item_test}
-use Rattle.page_layers.specs.Effects.{page_after_command, layer_change_of, rects_of, item_rect_in}
+use Rattle.page_layers.specs.Refusals.{has_layer, item_count, test_of}
+use Rattle.page_layers.specs.IfThere.{count_in, rects_of, item_rect_in}
+use Rattle.page_layers.specs.Effects.{page_after_command, layer_change_of}
 use Rattle.page_layers.specs.Outcomes.{Accepts}
 use Rattle.page_layers.specs.Sound.{AreDistinctLayers, IsPage}
 use Rattle.page_layers.specs.Contents.{content_at, size_of, shows_at, is_changed_whole, KeepsTheRest}
@@ -105,12 +106,12 @@ replaced_view : (x y : ℤ) (at : ℕ) (item : Item) (o : Option PageLayer) → 
 replaced_view x y at item None ok out = refl
 replaced_view x y at item (Some l) ok out = let same : length l.items ≡ ok.0 = cc in ap Some (replaced_items x y l.items at item (subst (λ (n : ℕ). at < n) (sym same) ok.2) out)
 
-remove_tested : (p : Page) (layer at : ℕ) → remove_item_test p layer at ≡ Ok tt → (count_in (find (has_id layer) p.layers) >>= (λ count. require (nat_lt at count) fault.BadPlace)) ≡ Ok tt
-unfolding remove_item_test
+remove_tested : (p : Page) (layer at : ℕ) → test_of p (command.RemoveItem (record { layer = layer; at = at })) ≡ Ok tt → (count_in (find (has_id layer) p.layers) >>= (λ count. require (nat_lt at count) fault.BadPlace)) ≡ Ok tt
+unfolding test_of
 remove_tested p layer at ok = ok
 
-replace_tested : (p : Page) (layer at : ℕ) (item : Item) → replace_item_test p layer at item ≡ Ok tt → (count : ℕ) × (count_in (find (has_id layer) p.layers) ≡ Ok count) × (at < count)
-unfolding replace_item_test
+replace_tested : (p : Page) (layer at : ℕ) (item : Item) → test_of p (command.ReplaceItem (record { layer = layer; at = at; item = item })) ≡ Ok tt → (count : ℕ) × (count_in (find (has_id layer) p.layers) ≡ Ok count) × (at < count)
+unfolding test_of
 replace_tested p layer at item ok =
     let counted = passed (item_count layer p.layers) _ tt ok in
     let placed = passed (require (nat_lt at counted.0) fault.BadPlace) _ tt counted.2 in

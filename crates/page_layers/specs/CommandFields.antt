@@ -1,5 +1,6 @@
 -- The commands: the name of each in scripts, its number for C, and its fields in the format's order. Reading, printing, the ranges and the numbers for C follow this list.
-use Rattle.std.specs.Prelude.{ℕ, List, [], ◌∷◌, codes, ◌==◌, Option, Some, None, if◌then◌else◌}
+use Rattle.std.specs.Prelude.{ℕ, List, [], ◌∷◌, codes, ◌==◌, Option, Some, None, find, if◌then◌else◌}
+use Rattle.std.specs.Option.{option_or}
 use Rattle.std.specs.Str.{bytes_eq}
 use Rattle.page_layers.specs.declared.command.Command.{Command}
 use Rattle.page_layers.specs.declared.command.Command.TheVariants.{AddTransform, SetTransform, AddClip, SetClip, AddEffect, SetOpacity, AddScroller, SetRange, ScrollBy, ScrollTo, AddLayer, RemoveLayer, ResizeLayer, SetColour, InsertItem, RemoveItem, ReplaceItem, MoveLayer, SetView}
@@ -66,8 +67,7 @@ layer_ops = op.AddLayer ∷ op.RemoveLayer ∷ op.ResizeLayer ∷ op.SetColour �
 
 -- the first of these commands that has this name
 abbrev pub first_named : List Op → List ℕ → Option Op
-first_named [] s = None
-first_named (o ∷ os) s = if bytes_eq s (op_name o) then Some o else first_named os s
+first_named ops s = find (λ o. bytes_eq s (op_name o)) ops
 
 -- the command of this name on the nodes of a page
 unfoldable pub node_op_named : List ℕ → Option Op
@@ -77,14 +77,9 @@ node_op_named s = first_named node_ops s
 unfoldable pub layer_op_named : List ℕ → Option Op
 layer_op_named s = first_named layer_ops s
 
--- the first of two that there is
-abbrev pub first_of : Option Op → Option Op → Option Op
-first_of (Some op) later = Some op
-first_of None later = later
-
 -- the command of this name
 unfoldable pub op_named : List ℕ → Option Op
-op_named s = first_of (node_op_named s) (layer_op_named s)
+op_named s = option_or (node_op_named s) (layer_op_named s)
 
 -- the first of these commands that has this number
 abbrev pub first_numbered : List Op → ℕ → Option Op
@@ -93,7 +88,7 @@ first_numbered (o ∷ os) n = if n == op_number o then Some o else first_numbere
 
 -- the command of this number
 unfoldable pub op_numbered : ℕ → Option Op
-op_numbered n = first_of (first_numbered node_ops n) (first_numbered layer_ops n)
+op_numbered n = option_or (first_numbered node_ops n) (first_numbered layer_ops n)
 
 -- the fields of a command
 abbrev pub fields : Op → List Field

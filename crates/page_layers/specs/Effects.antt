@@ -1,16 +1,18 @@
 -- What commands and pulls make of a page, and which layers a command lists as changed.
-use Rattle.std.specs.Prelude.{ℕ, ℤ, pos, ◌+ℤ◌, Bool, true, false, not, ◌==◌, List, [], ◌∷◌, ◌++◌, insert, remove, slice_set, slice_get, Option, Some, None, find, option_map}
+use Rattle.std.specs.Prelude.{ℕ, ℤ, pos, ◌+ℤ◌, Bool, true, false, not, ◌==◌, List, [], ◌∷◌, ◌++◌, insert, remove, slice_set, slice_get, Option, Some, None, find, option_map, option_and_then, unwrap_or}
+use Rattle.std.specs.List.{cons_option}
 use Rattle.geom.specs.declared.rect.Rect.{Rect}
 use Rattle.geom.specs.declared.rect.Point.{Point}
 use Rattle.page_properties.specs.declared.nodes.ScrollNode.{ScrollNode}
 use Rattle.page_properties.specs.Trees.{Trees as Props}
 use Rattle.page_properties.specs.Entries as entries
+use Rattle.page_properties.specs.OffsetMap.{origin}
 use Rattle.page_display_list.specs.Content.{rect_of_item}
 use Rattle.page_layers.specs.declared.command.Command.{Command}
 use Rattle.page_layers.specs.declared.command.Command.TheVariants as command
 use Rattle.page_layers.specs.Layers.{PageLayer, has_id, with_size, with_colour, with_items, with_layer_moved}
 use Rattle.page_layers.specs.Lists.{with_first_changed, without_first}
-use Rattle.page_layers.specs.Scrolls.{clamped, origin, or_origin}
+use Rattle.page_layers.specs.Scrolls.{clamped}
 use Rattle.page_layers.specs.Pages.{Page}
 use Rattle.page_layers.specs.declared.moves.Move.{Move}
 
@@ -28,12 +30,11 @@ with_layer_changed p id f = with_layers p (with_first_changed (has_id id) f p.la
 
 -- the main value of a scroller; (0, 0) if the page has no such scroller
 abbrev pub main_point : Page → ℕ → Point
-main_point p id = or_origin (entries.find id p.values)
+main_point p id = unwrap_or (entries.find id p.values) origin
 
--- a place clamped to the range of a scroller, if the page has it
+-- a place clamped to the range of a scroller, if the page has it; else the origin
 abbrev pub clamped_in : Option ScrollNode → ℤ → ℤ → Point
-clamped_in None x y = origin
-clamped_in (Some node) x y = clamped node x y
+clamped_in found x y = unwrap_or (option_map (λ node. clamped node x y) found) origin
 
 -- a page in which a scroller's main value is set, clamped to its range
 abbrev pub scrolled_to : Page → ℕ → ℤ → ℤ → Page
@@ -81,27 +82,17 @@ pub record Change : Type 0 where
   pub whole : Bool
   pub rects : List Rect
 
--- a rect, if there is one
-abbrev pub rects_of : Option Rect → List Rect
-rects_of None = []
-rects_of (Some r) = r ∷ []
-
--- the rect of an item of a layer, if there is one
-abbrev pub item_rect_in : ℕ → Option PageLayer → Option Rect
-item_rect_in at None = None
-item_rect_in at (Some l) = option_map rect_of_item (slice_get l.items at)
-
--- the rect of the item at a place of a layer's display list
+-- the rect of the item at a place of a layer's display list, if there is one
 abbrev pub item_rect_at : ℕ → ℕ → List PageLayer → Option Rect
-item_rect_at layer at layers = item_rect_in at (find (has_id layer) layers)
+item_rect_at layer at layers = option_and_then (λ l. option_map rect_of_item (slice_get l.items at)) (find (has_id layer) layers)
 
 -- the layer that a command lists: a layer added or resized whole, a layer whose items changed with the old and the new rect
 abbrev pub layer_change_of : Page → Command → Option Change
 layer_change_of p (command.AddLayer c) = Some (record { layer = c.id; whole = true; rects = [] })
 layer_change_of p (command.ResizeLayer c) = Some (record { layer = c.id; whole = true; rects = [] })
 layer_change_of p (command.InsertItem c) = Some (record { layer = c.layer; whole = false; rects = rect_of_item c.item ∷ [] })
-layer_change_of p (command.RemoveItem c) = Some (record { layer = c.layer; whole = false; rects = rects_of (item_rect_at c.layer c.at p.layers) })
-layer_change_of p (command.ReplaceItem c) = Some (record { layer = c.layer; whole = false; rects = rect_of_item c.item ∷ rects_of (item_rect_at c.layer c.at p.layers) })
+layer_change_of p (command.RemoveItem c) = Some (record { layer = c.layer; whole = false; rects = cons_option (item_rect_at c.layer c.at p.layers) [] })
+layer_change_of p (command.ReplaceItem c) = Some (record { layer = c.layer; whole = false; rects = rect_of_item c.item ∷ cons_option (item_rect_at c.layer c.at p.layers) [] })
 layer_change_of p _ = None
 
 -- whether a command retiles: a view whose tile size is not the page's

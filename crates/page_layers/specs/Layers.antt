@@ -1,5 +1,5 @@
 -- A layer as contracts see it, and lists of layers.
-use Rattle.std.specs.Prelude.{ℕ, ◌==◌, Bool, Option, None, Some, List, insert, find}
+use Rattle.std.specs.Prelude.{ℕ, ◌==◌, Bool, Option, option_map, unwrap_or, List, insert, find}
 use Rattle.pixel.specs.Colours.{Parts}
 use Rattle.page_display_list.specs.declared.item.Item.{Item}
 use Rattle.page_layers.specs.declared.layer.Layer.{Layer}
@@ -38,8 +38,7 @@ with_items f l = record l { items = f l.items }
 
 -- a layer, if there is one, at this place of the others
 abbrev pub put_at : ℕ → Option PageLayer → List PageLayer → List PageLayer
-put_at at None layers = layers
-put_at at (Some l) layers = insert layers at l
+put_at at layer layers = unwrap_or (option_map (insert layers at) layer) layers
 
 -- the layers with this one taken out and inserted at a place of the others
 abbrev pub with_layer_moved : ℕ → ℕ → List PageLayer → List PageLayer

@@ -17,4 +17,5 @@ pub mod Paintings
 pub mod Axes
 pub mod Scrollers
 pub mod Wheels
+pub mod IfThere
 pub mod inner

@@ -3,7 +3,8 @@ use Rattle.std.specs.Prelude.{ℕ, ℤ, pos, ◌+ℤ◌, ◌-ℤ◌, Bool, cond,
 use Rattle.geom.specs.declared.rect.Point.{Point}
 use Rattle.page_properties.specs.declared.nodes.ScrollNode.{ScrollNode}
 use Rattle.page_properties.specs.Entries.{ids, rising, find, knows}
-use Rattle.page_layers.specs.Scrolls.{clamp_to, origin}
+use Rattle.page_layers.specs.Scrolls.{clamp_to}
+use Rattle.page_properties.specs.OffsetMap.{origin}
 use Rattle.page_layers.specs.Effects.{main_point}
 use Rattle.page_layers.specs.Pages.{Page}
 use Rattle.page_layers.specs.Axes.{Axis, across, down, along}

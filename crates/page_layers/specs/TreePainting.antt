@@ -1,5 +1,5 @@
 -- The direct painting of a page: what the screen shows at one point. This definition walks the layers once; it knows tiles only as names of those that are missing.
-use Rattle.std.specs.Prelude.{ℕ, ℤ, pos, unsigned_abs, ◌/◌, ◌==◌, Bool, true, false, cond, ◌&&◌, ◌||◌, List, [], ◌∷◌, ◌++◌, Option, None, Some}
+use Rattle.std.specs.Prelude.{ℕ, ℤ, pos, unsigned_abs, ◌/◌, ◌==◌, Bool, true, false, cond, ◌&&◌, ◌||◌, List, [], ◌∷◌, ◌++◌, Option, None, option_map, unwrap_or}
 use Rattle.geom.specs.declared.rect.Point.{Point}
 use Rattle.geom.specs.declared.rect.Rect.{Rect}
 use Rattle.geom.specs.declared.tile.Place.{Place}
@@ -18,13 +18,9 @@ use Rattle.page_layers.specs.Painting.{folded, items_at}
 abbrev pub groups_in : List (ℕ × EffectNode) → ℕ → List ℕ
 groups_in nodes id = gathered (λ n. n.parent) [] (λ e above. cond (e.1.opacity == 255) above (above ++ e.0 ∷ [])) nodes id
 
--- the opacity of an effect that is there, and of the root
-abbrev pub opacity_or_255 : Option EffectNode → ℕ
-opacity_or_255 None = 255
-opacity_or_255 (Some n) = n.opacity
-
+-- the opacity of an effect; 255 if there is none
 abbrev pub opacity_in : List (ℕ × EffectNode) → ℕ → ℕ
-opacity_in nodes id = opacity_or_255 (find id nodes)
+opacity_in nodes id = unwrap_or (option_map (λ n. n.opacity) (find id nodes)) 255
 
 -- a screen point, moved back by the translation of a layer
 abbrev pub point_in : Page → (ℕ → Point) → PageLayer → ℤ → ℤ → Point
@@ -32,8 +28,7 @@ point_in p offset l x y = minus (record { x = x; y = y }) (translation offset p.
 
 -- whether a clip lets a screen point through; the root restricts nothing
 abbrev pub lets_through : Option Rect → ℤ → ℤ → Bool
-lets_through None x y = true
-lets_through (Some r) x y = covers r x y
+lets_through clip x y = unwrap_or (option_map (λ r. covers r x y) clip) true
 
 -- whether a layer lies at a screen point: the point is inside its clip, and, moved back, inside its bounds
 abbrev pub lies_at : Page → (ℕ → Point) → ℤ → ℤ → PageLayer → Bool

@@ -1,5 +1,5 @@
 -- What a wheel at a point of a page does: the layer that it hits, the parts that the scrollers of its chain take, and what they leave.
-use Rattle.std.specs.Prelude.{ℕ, ℤ, ◌-ℤ◌, List, [], ◌∷◌, find, Option, Some, None}
+use Rattle.std.specs.Prelude.{ℕ, ℤ, ◌-ℤ◌, List, [], ◌∷◌, find, option_map, unwrap_or}
 use Rattle.geom.specs.declared.rect.Point.{Point}
 use Rattle.page_layers.specs.Layers.{PageLayer, has_id}
 use Rattle.page_layers.specs.Pages.{Page}
@@ -19,14 +19,9 @@ abbrev pub chain_rest : (ℕ → Axis → ℤ → ℤ) → Axis → List ℕ →
 chain_rest takes ax [] asked = asked
 chain_rest takes ax (sc ∷ scs) asked = chain_rest takes ax scs (asked -ℤ takes sc ax asked)
 
--- the chain of a layer; none if there is no layer
-abbrev pub chain_or_none : Page → Option PageLayer → List ℕ
-chain_or_none p None = []
-chain_or_none p (Some l) = chain p l
-
 -- the scrollers that take a wheel over a layer, the nearest first; none if there is no layer
 abbrev pub chain_at : Page → ℕ → List ℕ
-chain_at p layer = chain_or_none p (find (has_id layer) p.layers)
+chain_at p layer = unwrap_or (option_map (chain p) (find (has_id layer) p.layers)) []
 
 -- how much of an amount a scroller takes in a page at these offsets: as much as its range allows
 abbrev pub takes_at : Page → (ℕ → Point) → ℕ → Axis → ℤ → ℤ

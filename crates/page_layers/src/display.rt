@@ -9,7 +9,8 @@ ghost use Rattle.page_display_list.specs.Content.{IsSoundItem};
 ghost use Rattle.page_layers.specs.Lists.{with_first_changed};
 ghost use Rattle.page_layers.specs.Layers.{parts_of, has_id, with_items};
 ghost use Rattle.page_layers.specs.Refusals as refusals;
-ghost use Rattle.page_layers.specs.Effects as effects;
+ghost use Rattle.page_layers.specs.Effects.{item_rect_at};
+ghost use Rattle.page_layers.specs.IfThere.{item_rect_in};
 ghost use Rattle.page_layers.specs.inner.FoundPlaces.{IsPlaceOf};
 
 use crate::fault::EditFault;
@@ -50,7 +51,7 @@ pub(crate) fn item_count(
 // The rect of an item of a layer, if there is one.
 #[tactic(auto, using(crate::proofs::LayerPlaces::item_there, crate::proofs::LayerPlaces::item_past))]
 fn rect_in(layer: &Layer, at: usize) -> Option<Rect>
-    ensures value { result ≡ effects.item_rect_in at (Some (parts_of layer.now)) }
+    ensures value { result ≡ item_rect_in at (Some (parts_of layer.now)) }
     ensures sound { IfSome result IsSound }
 {
     match layer.list.item(at) {
@@ -63,7 +64,7 @@ fn rect_in(layer: &Layer, at: usize) -> Option<Rect>
 #[tactic(auto, using(crate::proofs::LayerPlaces::found_is))]
 pub(crate) fn rect_at(layers: &[Layer], id: u32, place: Option<usize>, at: usize) -> Option<Rect>
     requires { IsPlaceOf id layers.now place }
-    ensures value { result ≡ effects.item_rect_at id at (map parts_of layers.now) }
+    ensures value { result ≡ item_rect_at id at (map parts_of layers.now) }
     ensures sound { IfSome result IsSound }
 {
     // The contract alone speaks of the id.

@@ -2,7 +2,7 @@
 
 ghost use Rattle.std.specs.Prelude.{◌∷◌, [], true, false, IfOk, IfSome, Option, None, Some};
 ghost use Rattle.geom.specs.Covers.{IsSound};
-ghost use Rattle.page_layers.specs.Effects.{rects_of};
+ghost use Rattle.page_layers.specs.IfThere.{rects_of};
 ghost use Rattle.page_layers.specs.Outcomes.{ListsChange};
 
 use geom::Rect;

@@ -17,7 +17,8 @@ use Rattle.page_layers.specs.Pages.{Page}
 use Rattle.page_layers.specs.Refusals.{test_of}
 use Rattle.page_layers.specs.Scrollers.{scrollers, has_scroller, most, amount_taken}
 use Rattle.page_layers.specs.Scrolls.{clamp_to, IsInRange}
-use Rattle.page_layers.specs.Wheels.{chain_parts, chain_rest, chain_or_none, chain_at}
+use Rattle.page_layers.specs.Wheels.{chain_parts, chain_rest, chain_at}
+use Rattle.page_layers.specs.IfThere.{chain_or_none}
 use Rattle.page_layers.proofs.TestFacts.{add_scroller_facts}
 use Rattle.model_history.specs.Scripts.{ScriptModel}
 use Rattle.model_history.specs.Accepted.{IsPlayable, TakesAll}

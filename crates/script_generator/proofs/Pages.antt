@@ -16,9 +16,10 @@ use Rattle.page_layers.specs.declared.command.Command.TheVariants as command
 use Rattle.page_layers.specs.declared.fault.EditFault.{EditFault}
 use Rattle.page_layers.specs.declared.fault.EditFault.TheVariants as fault
 use Rattle.page_layers.specs.Tests.{◌>>=◌, require, check_range, is_id, is_size}
-use Rattle.page_layers.specs.Scrolls.{origin, clamped}
+use Rattle.page_layers.specs.Scrolls.{clamped}
+use Rattle.page_properties.specs.OffsetMap.{origin}
 use Rattle.page_layers.specs.Pages.{Page}
-use Rattle.page_layers.specs.Refusals.{takes, is_offset, is_clip_rect, is_item_rect, is_scroll_range, check_scroll, add_scroller_test, add_transform_test, add_clip_test, add_effect_test, add_layer_test, insert_item_test, replace_item_test, scroll_by_test, test_of}
+use Rattle.page_layers.specs.Refusals.{takes, is_offset, is_clip_rect, is_item_rect, is_scroll_range, check_scroll, test_of}
 use Rattle.page_layers.specs.Effects.{page_after_command, commanded}
 use Rattle.page_layers.specs.Outcomes.{Accepts}
 use Rattle.model_history.specs.Accepted.{TakesAll, TakesFrames}
@@ -95,17 +96,17 @@ needs : (b : Bool) (f : EditFault) → b ≡ true → require b f ≡ Ok tt
 needs b f p = ap (λ c. require c f) p
 
 insert_passes : (xs : List Item) (v : Point) (x at : ℕ) → length xs ≡ at → at < 256 → test_of (page_with xs v) (command.InsertItem (record { layer = 1; at = at; item = (drawn_item x) })) ≡ Ok tt
-unfolding insert_item_test
+unfolding test_of
 insert_passes xs v x at e l =
     then _ _ (needs (nat_le at (length xs)) _ (is_le at (length xs) (omega (arith, e))))
     (then _ _ (needs (nat_lt (length xs) 256) _ (is_below (length xs) 256 (omega (arith, e, l)))) (item_rect x))
 
 replace_passes : (xs : List Item) (v : Point) (x at : ℕ) → length xs ≡ 200 → at < 200 → test_of (page_with xs v) (command.ReplaceItem (record { layer = 1; at = at; item = (drawn_item x) })) ≡ Ok tt
-unfolding replace_item_test
+unfolding test_of
 replace_passes xs v x at e l = then _ _ (needs (nat_lt at (length xs)) _ (is_below at (length xs) (omega (arith, e, l)))) (item_rect x)
 
 scroll_passes : (xs : List Item) (v : Point) (d : ℕ) → d < 40 → test_of (page_with xs v) (command.ScrollBy (record { id = 1; dx = (pos 0); dy = (pos d) })) ≡ Ok tt
-unfolding scroll_by_test check_scroll check_range
+unfolding test_of check_scroll check_range
 scroll_passes xs v d l = let q = not_above d 1048576 (omega (arith, l)) in λ i. cond (q i) (Err (fault.OutOfRange (pos d) (pos 1048576))) (Ok tt)
 
 -- ---- main frame 0
@@ -114,7 +115,7 @@ accepted : (p : Page) (c : Command) → test_of p c ≡ Ok tt → length (map (�
 accepted p c t l = record { passes = t; together = short_nested (page_after_command p c).props.effects (map (λ l. l.effect) (page_after_command p c).layers) l }
 
 takes_page : (cs : List Command) → TakesAll (page_with [] origin) cs → TakesAll first_page (page_commands ++ cs)
-unfolding add_scroller_test add_transform_test add_clip_test add_effect_test add_layer_test insert_item_test takes is_offset is_clip_rect is_item_rect is_scroll_range is_id is_size check_range
+unfolding test_of takes is_offset is_clip_rect is_item_rect is_scroll_range is_id is_size check_range
 takes_page cs t = (
   accepted _ _ refl (omega arith),
   (

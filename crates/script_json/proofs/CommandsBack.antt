@@ -14,7 +14,8 @@ use Rattle.page_layers.specs.declared.command.Op.{Op}
 use Rattle.page_layers.specs.declared.command.Op.TheVariants as op
 use Rattle.script_json.specs.Faults.{placed, before_rest}
 use Rattle.script_json.specs.Ops.{op_at}
-use Rattle.page_layers.specs.CommandFields.{op_name, node_ops, layer_ops, fields, make, first_named, node_op_named, layer_op_named, first_of, op_named}
+use Rattle.std.specs.Option.{option_or}
+use Rattle.page_layers.specs.CommandFields.{op_name, node_ops, layer_ops, fields, make, first_named, node_op_named, layer_op_named, op_named}
 use Rattle.script_json.specs.CommandReading.{fields_at, command_at, commands_at, frame_at, frames_at}
 use Rattle.script_json.specs.CommandValues.{op_members, command_data, frame_data}
 use Rattle.script_json.proofs.CommandLaws.{placed_ok}
@@ -35,7 +36,7 @@ named_back : (os : List Op) (s : List ℕ) → IfSome (first_named os s) (λ o. 
 named_back [] s = tt
 named_back (o ∷ os) s = when s (op_name o) o (first_named os s) _ (λ e. e) (named_back os s)
 
-first_back : (first later : Option Op) (P : Op → Type 0) → IfSome first P → IfSome later P → IfSome (first_of first later) P
+first_back : (first later : Option Op) (P : Op → Type 0) → IfSome first P → IfSome later P → IfSome (option_or first later) P
 first_back (Some op) later P is_first is_later = is_first
 first_back None later P is_first is_later = is_later
 

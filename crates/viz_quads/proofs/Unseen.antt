@@ -7,7 +7,8 @@ use Rattle.page_properties.specs.declared.nodes.EffectNode.{EffectNode}
 use Rattle.page_properties.specs.Entries.{find, knows}
 use Rattle.page_properties.specs.Placement.{draws}
 use Rattle.page_properties.specs.Trees.{AreEffects}
-use Rattle.page_layers.specs.TreePainting.{groups_in, opacity_in, opacity_or_255}
+use Rattle.page_layers.specs.TreePainting.{groups_in, opacity_in}
+use Rattle.page_layers.specs.IfThere.{opacity_or_255}
 
 -- each node's effect has the opacity of the node
 Agree : (ℕ → ℕ) → List (ℕ × EffectNode) → Type 0

@@ -4,7 +4,7 @@ ghost use Rattle.std.specs.Prelude.{◌≡◌, ◌<◌, map};
 ghost use Rattle.page_layers.specs.declared.command.Command.TheVariants as command;
 ghost use Rattle.page_layers.specs.Layers.{parts_of};
 ghost use Rattle.page_layers.specs.Pages.{Page};
-ghost use Rattle.page_layers.specs.Refusals as refusals;
+ghost use Rattle.page_layers.specs.Refusals.{test_of};
 ghost use Rattle.page_layers.specs.inner.FoundPlaces.{IsPlaceOf};
 ghost use Rattle.page_layers.specs.inner.Tested.{Tested};
 
@@ -18,14 +18,14 @@ use crate::{display, listing};
 use region::Changes;
 
 // Whether the layer, which stands at this place, takes the item; else the first fault.
-#[tactic(auto, unfolding(crate::specs::Refusals::insert_item_test))]
+#[tactic(auto, unfolding(crate::specs::Refusals::test_of))]
 fn may_insert_item(
     layers: &[Layer],
     place: Option<usize>,
     fields: &InsertItem,
 ) -> Result<(), EditFault>
     requires { IsPlaceOf fields.now.layer layers.now place }
-    ensures { (p : Page) → p.layers ≡ map parts_of layers.now → result ≡ refusals.insert_item_test p fields.now.layer fields.now.at fields.now.item }
+    ensures { (p : Page) → p.layers ≡ map parts_of layers.now → result ≡ test_of p (command.InsertItem fields.now) }
 {
     let count = display::item_count(layers, fields.layer, place)?;
     require(fields.at as usize <= count, EditFault::BadPlace)?;
@@ -37,28 +37,28 @@ fn may_insert_item(
 }
 
 // Whether the layer, which stands at this place, has the item; else the first fault.
-#[tactic(auto, unfolding(crate::specs::Refusals::remove_item_test))]
+#[tactic(auto, unfolding(crate::specs::Refusals::test_of))]
 fn may_remove_item(
     layers: &[Layer],
     place: Option<usize>,
     fields: &RemoveItem,
 ) -> Result<(), EditFault>
     requires { IsPlaceOf fields.now.layer layers.now place }
-    ensures { (p : Page) → p.layers ≡ map parts_of layers.now → result ≡ refusals.remove_item_test p fields.now.layer fields.now.at }
+    ensures { (p : Page) → p.layers ≡ map parts_of layers.now → result ≡ test_of p (command.RemoveItem fields.now) }
 {
     let count = display::item_count(layers, fields.layer, place)?;
     require((fields.at as usize) < count, EditFault::BadPlace)
 }
 
 // Whether the layer, which stands at this place, takes the item in place of another; else the first fault.
-#[tactic(auto, unfolding(crate::specs::Refusals::replace_item_test))]
+#[tactic(auto, unfolding(crate::specs::Refusals::test_of))]
 fn may_replace_item(
     layers: &[Layer],
     place: Option<usize>,
     fields: &ReplaceItem,
 ) -> Result<(), EditFault>
     requires { IsPlaceOf fields.now.layer layers.now place }
-    ensures { (p : Page) → p.layers ≡ map parts_of layers.now → result ≡ refusals.replace_item_test p fields.now.layer fields.now.at fields.now.item }
+    ensures { (p : Page) → p.layers ≡ map parts_of layers.now → result ≡ test_of p (command.ReplaceItem fields.now) }
 {
     let count = display::item_count(layers, fields.layer, place)?;
     require((fields.at as usize) < count, EditFault::BadPlace)?;

@@ -2,7 +2,7 @@
 
 ghost use Rattle.std.specs.Prelude.{◌≡◌, ◌<◌};
 ghost use Rattle.page_layers.specs.declared.command.Command.TheVariants as command;
-ghost use Rattle.page_layers.specs.Refusals as refusals;
+ghost use Rattle.page_layers.specs.Refusals.{test_of};
 ghost use Rattle.page_layers.specs.inner.Tested.{Tested};
 
 use super::LayerTree;
@@ -14,12 +14,12 @@ use crate::{layers, listing};
 use region::Changes;
 
 impl LayerTree {
-    #[tactic(auto, unfolding(crate::specs::Refusals::remove_layer_test))]
-    fn may_remove_layer(&self, id: u32) -> Result<(), EditFault>
-        ensures { result ≡ refusals.remove_layer_test self.now id }
+    #[tactic(auto, unfolding(crate::specs::Refusals::test_of))]
+    fn may_remove_layer(&self, fields: &RemoveLayer) -> Result<(), EditFault>
+        ensures { result ≡ test_of self.now (command.RemoveLayer fields.now) }
     {
         require(
-            layers::has_layer(self.layers.as_slice(), id),
+            layers::has_layer(self.layers.as_slice(), fields.id),
             EditFault::UnknownId,
         )
     }
@@ -27,14 +27,14 @@ impl LayerTree {
     pub(crate) fn remove_layer(&mut self, fields: &RemoveLayer) -> Result<Changes, EditError>
         ensures { Tested self.old (command.RemoveLayer fields.now) self.new result }
     {
-        self.may_remove_layer(fields.id)?;
+        self.may_remove_layer(fields)?;
         layers::remove(&mut self.layers, fields.id);
         Ok(self.unlisted())
     }
 
-    #[tactic(auto, unfolding(crate::specs::Refusals::resize_layer_test))]
+    #[tactic(auto, unfolding(crate::specs::Refusals::test_of))]
     fn may_resize_layer(&self, fields: &ResizeLayer) -> Result<(), EditFault>
-        ensures { result ≡ refusals.resize_layer_test self.now fields.now.id fields.now.w fields.now.h }
+        ensures { result ≡ test_of self.now (command.ResizeLayer fields.now) }
     {
         require(
             layers::has_layer(self.layers.as_slice(), fields.id),
@@ -52,12 +52,12 @@ impl LayerTree {
         Ok(changes)
     }
 
-    #[tactic(auto, unfolding(crate::specs::Refusals::set_colour_test))]
-    fn may_set_colour(&self, id: u32) -> Result<(), EditFault>
-        ensures { result ≡ refusals.set_colour_test self.now id }
+    #[tactic(auto, unfolding(crate::specs::Refusals::test_of))]
+    fn may_set_colour(&self, fields: &SetColour) -> Result<(), EditFault>
+        ensures { result ≡ test_of self.now (command.SetColour fields.now) }
     {
         require(
-            layers::has_layer(self.layers.as_slice(), id),
+            layers::has_layer(self.layers.as_slice(), fields.id),
             EditFault::UnknownId,
         )
     }
@@ -65,14 +65,14 @@ impl LayerTree {
     pub(crate) fn set_colour(&mut self, fields: &SetColour) -> Result<Changes, EditError>
         ensures { Tested self.old (command.SetColour fields.now) self.new result }
     {
-        self.may_set_colour(fields.id)?;
+        self.may_set_colour(fields)?;
         layers::recolour(&mut self.layers, fields.id, fields.colour);
         Ok(self.unlisted())
     }
 
-    #[tactic(auto, unfolding(crate::specs::Refusals::set_view_test))]
+    #[tactic(auto, unfolding(crate::specs::Refusals::test_of))]
     fn may_set_view(&self, fields: &SetView) -> Result<(), EditFault>
-        ensures { result ≡ refusals.set_view_test fields.now.w fields.now.h fields.now.tile }
+        ensures { result ≡ test_of self.now (command.SetView fields.now) }
     {
         in_range(fields.w as i64, 1, MAX_VIEWPORT)?;
         in_range(fields.h as i64, 1, MAX_VIEWPORT)?;

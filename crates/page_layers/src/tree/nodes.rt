@@ -3,7 +3,7 @@
 ghost use Rattle.std.specs.Prelude.{◌≡◌};
 ghost use Rattle.page_properties.specs.Entries.{is_known};
 ghost use Rattle.page_layers.specs.declared.command.Command.TheVariants as command;
-ghost use Rattle.page_layers.specs.Refusals as refusals;
+ghost use Rattle.page_layers.specs.Refusals.{test_of};
 ghost use Rattle.page_layers.specs.inner.Tested.{Tested};
 
 use super::LayerTree;
@@ -54,9 +54,9 @@ impl LayerTree {
         id == 0 || self.props.scroller(id).is_some()
     }
 
-    #[tactic(auto, unfolding(crate::specs::Refusals::add_transform_test, crate::specs::Refusals::takes))]
+    #[tactic(auto, unfolding(crate::specs::Refusals::test_of, crate::specs::Refusals::takes))]
     fn may_add_transform(&self, fields: &AddTransform) -> Result<(), EditFault>
-        ensures { result ≡ refusals.add_transform_test self.now fields.now.id fields.now.parent fields.now.x fields.now.y fields.now.scroller }
+        ensures { result ≡ test_of self.now (command.AddTransform fields.now) }
     {
         let parent_known = self.is_transform(fields.parent);
         let scroller_known = self.is_scroller(fields.scroller);
@@ -79,9 +79,9 @@ impl LayerTree {
         Ok(self.unlisted())
     }
 
-    #[tactic(auto, unfolding(crate::specs::Refusals::set_transform_test))]
+    #[tactic(auto, unfolding(crate::specs::Refusals::test_of))]
     fn may_set_transform(&self, fields: &SetTransform) -> Result<(), EditFault>
-        ensures { result ≡ refusals.set_transform_test self.now fields.now.id fields.now.x fields.now.y }
+        ensures { result ≡ test_of self.now (command.SetTransform fields.now) }
     {
         require(
             self.props.transform(fields.id).is_some(),
@@ -98,9 +98,9 @@ impl LayerTree {
         Ok(self.unlisted())
     }
 
-    #[tactic(auto, unfolding(crate::specs::Refusals::add_clip_test, crate::specs::Refusals::takes))]
+    #[tactic(auto, unfolding(crate::specs::Refusals::test_of, crate::specs::Refusals::takes))]
     fn may_add_clip(&self, fields: &AddClip) -> Result<(), EditFault>
-        ensures { result ≡ refusals.add_clip_test self.now fields.now.id fields.now.parent fields.now.transform fields.now.rect }
+        ensures { result ≡ test_of self.now (command.AddClip fields.now) }
     {
         let parent_known = self.is_clip(fields.parent);
         let transform_known = self.is_transform(fields.transform);
@@ -129,9 +129,9 @@ impl LayerTree {
         Ok(self.unlisted())
     }
 
-    #[tactic(auto, unfolding(crate::specs::Refusals::set_clip_test))]
+    #[tactic(auto, unfolding(crate::specs::Refusals::test_of))]
     fn may_set_clip(&self, fields: &SetClip) -> Result<(), EditFault>
-        ensures { result ≡ refusals.set_clip_test self.now fields.now.id fields.now.rect }
+        ensures { result ≡ test_of self.now (command.SetClip fields.now) }
     {
         require(self.props.clip(fields.id).is_some(), EditFault::UnknownId)?;
         is_clip_rect(fields.rect)
@@ -145,9 +145,9 @@ impl LayerTree {
         Ok(self.unlisted())
     }
 
-    #[tactic(auto, unfolding(crate::specs::Refusals::add_effect_test, crate::specs::Refusals::takes))]
+    #[tactic(auto, unfolding(crate::specs::Refusals::test_of, crate::specs::Refusals::takes))]
     fn may_add_effect(&self, fields: &AddEffect) -> Result<(), EditFault>
-        ensures { result ≡ refusals.add_effect_test self.now fields.now.id fields.now.parent fields.now.opacity }
+        ensures { result ≡ test_of self.now (command.AddEffect fields.now) }
     {
         require(self.is_effect(fields.parent), EditFault::UnknownId)?;
         require(self.props.effect(fields.id).is_none(), EditFault::IdUsed)?;
@@ -174,9 +174,9 @@ impl LayerTree {
         Ok(self.unlisted())
     }
 
-    #[tactic(auto, unfolding(crate::specs::Refusals::set_opacity_test))]
+    #[tactic(auto, unfolding(crate::specs::Refusals::test_of))]
     fn may_set_opacity(&self, fields: &SetOpacity) -> Result<(), EditFault>
-        ensures { result ≡ refusals.set_opacity_test self.now fields.now.id fields.now.opacity }
+        ensures { result ≡ test_of self.now (command.SetOpacity fields.now) }
     {
         require(self.props.effect(fields.id).is_some(), EditFault::UnknownId)?;
         in_range(fields.opacity as i64, 0, 255)

@@ -8,7 +8,7 @@ ghost use Rattle.std.specs.List.{list_any};
 ghost use Rattle.page_layers.specs.declared.command.Command.TheVariants as command;
 ghost use Rattle.page_layers.specs.Layers.{PageLayer, parts_of, with_layer_moved};
 ghost use Rattle.page_layers.specs.inner.FoundPlaces.{StandsAt};
-ghost use Rattle.page_layers.specs.Refusals as refusals;
+ghost use Rattle.page_layers.specs.Refusals.{test_of};
 ghost use Rattle.page_layers.specs.Outcomes.{StandTogether, Outcome};
 
 use super::LayerTree;
@@ -108,9 +108,9 @@ impl LayerTree {
         self.used.contains(&id)
     }
 
-    #[tactic(auto, unfolding(crate::specs::Refusals::add_layer_test))]
+    #[tactic(auto, unfolding(crate::specs::Refusals::test_of))]
     fn may_add_layer(&self, fields: &AddLayer) -> Result<(), EditFault>
-        ensures { result ≡ refusals.add_layer_test self.now (record { id = fields.now.id; transform = fields.now.transform; clip = fields.now.clip; effect = fields.now.effect; w = fields.now.w; h = fields.now.h; colour = fields.now.colour; items = [] }) fields.now.at }
+        ensures { result ≡ test_of self.now (command.AddLayer fields.now) }
     {
         let transform_known = self.is_transform(fields.transform);
         let clip_known = self.is_clip(fields.clip);
@@ -128,9 +128,9 @@ impl LayerTree {
         is_size(fields.w, fields.h)
     }
 
-    #[tactic(auto, unfolding(crate::specs::Refusals::move_layer_test))]
+    #[tactic(auto, unfolding(crate::specs::Refusals::test_of))]
     fn may_move_layer(&self, fields: &MoveLayer) -> Result<(), EditFault>
-        ensures { result ≡ refusals.move_layer_test self.now fields.now.id fields.now.at }
+        ensures { result ≡ test_of self.now (command.MoveLayer fields.now) }
     {
         require(
             layers::has_layer(self.layers.as_slice(), fields.id),

@@ -2,7 +2,7 @@
 
 ghost use Rattle.std.specs.Prelude.{◌≡◌, ◌≤◌, ◌^◌, pos, neg_ℤ, ◌+ℤ◌, ◌-ℤ◌, ◌<ℤ◌, ◌≤ℤ◌, IsTrue};
 ghost use Rattle.page_layers.specs.declared.command.Command.TheVariants as command;
-ghost use Rattle.page_layers.specs.Refusals as refusals;
+ghost use Rattle.page_layers.specs.Refusals.{test_of};
 ghost use Rattle.page_properties.specs.OffsetMap.{IsOffset};
 ghost use Rattle.page_properties.specs.Placement.{minus};
 ghost use Rattle.page_properties.specs.Entries.{find, knows};
@@ -92,9 +92,9 @@ impl LayerTree {
         value_in(self.values.as_slice(), id)
     }
 
-    #[tactic(auto, unfolding(crate::specs::Refusals::add_scroller_test, crate::specs::Refusals::takes))]
+    #[tactic(auto, unfolding(crate::specs::Refusals::test_of, crate::specs::Refusals::takes))]
     fn may_add_scroller(&self, fields: &AddScroller) -> Result<(), EditFault>
-        ensures { result ≡ refusals.add_scroller_test self.now fields.now.id fields.now.parent fields.now.max_x fields.now.max_y }
+        ensures { result ≡ test_of self.now (command.AddScroller fields.now) }
     {
         require(self.is_scroller(fields.parent), EditFault::UnknownId)?;
         require(self.props.scroller(fields.id).is_none(), EditFault::IdUsed)?;
@@ -153,9 +153,9 @@ impl LayerTree {
         self.scroll(id, x, y);
     }
 
-    #[tactic(auto, unfolding(crate::specs::Refusals::set_range_test))]
+    #[tactic(auto, unfolding(crate::specs::Refusals::test_of))]
     fn may_set_range(&self, fields: &SetRange) -> Result<(), EditFault>
-        ensures { result ≡ refusals.set_range_test self.now fields.now.id fields.now.max_x fields.now.max_y }
+        ensures { result ≡ test_of self.now (command.SetRange fields.now) }
     {
         require(
             self.props.scroller(fields.id).is_some(),
@@ -164,9 +164,9 @@ impl LayerTree {
         is_scroll_range(fields.max_x, fields.max_y)
     }
 
-    #[tactic(auto, unfolding(crate::specs::Refusals::scroll_by_test))]
+    #[tactic(auto, unfolding(crate::specs::Refusals::test_of))]
     fn may_scroll_by(&self, fields: &ScrollBy) -> Result<(), EditFault>
-        ensures { result ≡ refusals.scroll_by_test self.now fields.now.id fields.now.dx fields.now.dy }
+        ensures { result ≡ test_of self.now (command.ScrollBy fields.now) }
     {
         require(
             self.props.scroller(fields.id).is_some(),
@@ -175,9 +175,9 @@ impl LayerTree {
         is_scroll(fields.dx, fields.dy)
     }
 
-    #[tactic(auto, unfolding(crate::specs::Refusals::scroll_to_test))]
+    #[tactic(auto, unfolding(crate::specs::Refusals::test_of))]
     fn may_scroll_to(&self, fields: &ScrollTo) -> Result<(), EditFault>
-        ensures { result ≡ refusals.scroll_to_test self.now fields.now.id fields.now.x fields.now.y }
+        ensures { result ≡ test_of self.now (command.ScrollTo fields.now) }
     {
         require(
             self.props.scroller(fields.id).is_some(),

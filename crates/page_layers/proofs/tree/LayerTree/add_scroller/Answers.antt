@@ -8,7 +8,7 @@ use Rattle.page_layers.proofs.tree.LayerTree.add_scroller.Goals as goal
 use Rattle.page_layers.proofs.TestFacts.{add_scroller_facts}
 use Rattle.std.proofs.Common.{◌∷◌}
 use Rattle.geom.specs.declared.rect.Point.{Point}
-use Rattle.page_layers.specs.Scrolls.{origin}
+use Rattle.page_properties.specs.OffsetMap.{origin}
 
 pub add_scroller-requires : goal.add_scroller-requires
 add_scroller-requires c =
