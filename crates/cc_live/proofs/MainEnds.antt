@@ -18,8 +18,9 @@ use Rattle.model_history.specs.declared.event.Event.TheVariants as event
 use Rattle.model_history.specs.declared.history.Entry.{Entry}
 use Rattle.model_history.specs.declared.input.Input.{Input}
 use Rattle.model_history.specs.Scripts.{ScriptModel}
-use Rattle.model_history.specs.Accepted.{IsAccepted, IsPlayable, TakesAll}
-use Rattle.model_history.specs.Due.{due, on_if, due_ready, due_abort}
+use Rattle.model_history.specs.Accepted.{IsAccepted, TakesAll}
+use Rattle.model_history.specs.Due.{due, on_if}
+use Rattle.model_history.specs.DueParts.{due_ready, due_abort}
 use Rattle.model_history.specs.Ended.{AreBounded, Tells}
 use Rattle.model_history.specs.EventFields.{sends, answers}
 use Rattle.model_history.specs.Frames.{commands_of, page, changes, pulls_of}
@@ -38,8 +39,7 @@ use Rattle.model_history.proofs.GrownSteps.{as_many, reads_commands, one_waits}
 use Rattle.model_history.proofs.PageFacts.{with_values, pulled_values, takes_values}
 use Rattle.model_history.proofs.PullBounds.{pulls_bounded}
 use Rattle.model_history.proofs.RangeBounds.{sent_few}
-use Rattle.model_history.proofs.GrownScripts.{accepted_commands, short_commands}
-use Rattle.model_history.proofs.Ranged.{playable}
+use Rattle.model_history.proofs.Rooms.{accepted_commands, short_commands}
 use Rattle.model_history.proofs.DueFacts.{entry}
 use Rattle.model_steps.proofs.GrownKeys.{still_shows}
 use Rattle.impl_log.specs.Runs.{Run, past, now, with_entry, Entered}
@@ -116,6 +116,7 @@ edit_kept p old new c (Err (fault.Refused why)) fits e i = same_frame p (record 
 edit_kept p old new c (Err fault.Worn) fits e i = same_frame p (record { page = old.page; commands = old.commands.items }) (record { page = new.page; commands = new.commands.items }) e.1 e.2 i
 edit_kept p old new c (Err (fault.Memory refused)) fits e i = same_frame p (record { page = old.page; commands = old.commands.items }) (record { page = new.page; commands = new.commands.items }) e.0 e.1 i
 edit_kept p old new c (Err fault.NotNow) fits e i = absurd e
+edit_kept p old new c (Err fault.OutOfRange) fits e i = absurd e
 
 frame_is : (l : LiveModel) (old new : OpenFrame) → l.open_frame ≡ open_of (Some old) → new.page ≡ old.page → new.commands.items ≡ old.commands.items → record l { open_frame = open_of (Some new) } ≡ l
 frame_is l old new was pages commands =
@@ -127,6 +128,7 @@ edits_of l old new c (Err (fault.Refused why)) was e = (record { page = old.page
 edits_of l old new c (Err fault.Worn) was e = (record { page = old.page; commands = old.commands.items }, was, e.0, frame_is l old new was e.1 e.2)
 edits_of l old new c (Err (fault.Memory refused)) was e = frame_is l old new was e.0 e.1
 edits_of l old new c (Err fault.NotNow) was e = absurd e
+edits_of l old new c (Err fault.OutOfRange) was e = absurd e
 
 -- ---- the main frame in flight
 
@@ -158,8 +160,8 @@ told_same r k j ms ns e f = moves_of (j, ns) (k, ms) (f ∙ e)
     moves_of : (p q : ℕ × List Move) → Some p ≡ Some q → p.1 ≡ q.1
     moves_of p q i = let h : p ≡ q = cc in ap (λ (z : ℕ × List Move). z.1) h
 
-pub flying_bounded : (r : Run) (k : ℕ) (ms : List Move) → Legal r.script r.workers (past r) → IsPlayable r.script → told_frame r ≡ Some (k, ms) → AreBounded ms
-flying_bounded r k ms legal plays e = let f : IsInFlight r k ms = flying r k ms e in subst AreBounded (sym f.pulls) (pulls_bounded r.script r.workers (past r) k plays legal)
+pub flying_bounded : (r : Run) (k : ℕ) (ms : List Move) → Legal r.script r.workers (past r) → IsAccepted r.script → told_frame r ≡ Some (k, ms) → AreBounded ms
+flying_bounded r k ms legal accepted e = let f : IsInFlight r k ms = flying r k ms e in subst AreBounded (sym f.pulls) (pulls_bounded r.script r.workers (past r) k accepted legal)
 
 module _ (r : Run) (legal : Legal r.script r.workers (past r)) (k : ℕ) (ms : List Move) (f : IsInFlight r k ms) where
   pub answered_is : counted answers (past r) ≡ k
@@ -217,7 +219,7 @@ module _ (r : Run) (legal : Legal r.script r.workers (past r)) (sent : is_sent (
     has = (λ j. has_key (page_keys (page_told i.pulls i.frames i.answered j) (stamp_told i.pulls i.frames i.answered j)) q) ∙ i.has;
   }
 
-  job_told : IsPlayable t → (o : Option TileKey) (j : Option Job) → IfSettled s (past r) o → HasJob s o j → HasJob t o j
+  job_told : IsAccepted t → (o : Option TileKey) (j : Option Job) → IfSettled s (past r) o → HasJob s o j → HasJob t o j
   job_told a None j i h = h
   job_told a (Some q) None i h = h
   job_told a (Some q) (Some job) i h = record {
@@ -241,11 +243,10 @@ module _ (r : Run) (legal : Legal r.script r.workers (past r)) (sent : is_sent (
           sent = omega (arith, many, few);
           all_sent = λ u. let all = told.all_sent u in omega (arith, many, all);
           version = told.version;
-          accepted = a;
         };
         out = record {
           count = live.out.count;
-          each = λ w lt. job_told (playable t a) (held w (past r)) (slice_index_or jobs w None) (live.out.settled w lt) (live.out.each w lt);
+          each = λ w lt. job_told a (held w (past r)) (slice_index_or jobs w None) (live.out.settled w lt) (live.out.each w lt);
           settled = λ w lt. settled_told (held w (past r)) (live.out.settled w lt);
         };
       }

@@ -21,7 +21,8 @@ use Rattle.model_history.specs.Frames.{is_left, pending, active_page}
 use Rattle.model_history.specs.Scrolls.{accepted, next_pulls, next_clamps, active_offsets}
 use Rattle.model_history.specs.Tiles.{live_keys, required, are_ready}
 use Rattle.model_history.specs.Ranking.{rank_to_start, evicted_for}
-use Rattle.model_history.specs.Due.{due, on_if, next_input, input_now, due_activate, due_scroll, due_wheel, due_start, due_done}
+use Rattle.model_history.specs.Due.{due, on_if, next_input, input_now, due_scroll, due_wheel}
+use Rattle.model_history.specs.DueParts.{due_activate, due_start, due_done}
 use Rattle.model_history.specs.Legal.{is_open, can, Legal}
 use Rattle.model_history.proofs.DueFacts.{entry}
 use Rattle.model_history.proofs.RankFacts.{first_unmade}

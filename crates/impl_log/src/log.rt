@@ -6,6 +6,7 @@ ghost use Rattle.model_history.specs.EventFields.{kind_of, actor_of, begins};
 ghost use Rattle.model_history.specs.declared.event.Event.TheVariants as event;
 ghost use Rattle.model_history.specs.Accepted.{IsPlayable};
 ghost use Rattle.model_history.specs.Due as dues;
+ghost use Rattle.model_history.specs.DueParts.{due_skip};
 ghost use Rattle.model_history.specs.Frames as frames;
 ghost use Rattle.model_history.specs.Legal as legal;
 ghost use Rattle.model_history.specs.Scans as scans;
@@ -292,7 +293,7 @@ impl Log {
 
     // The draw that is skipped, if nothing is active.
     fn skip(&self) -> Option<Event>
-        ensures { result ≡ dues.due_skip (past self.now) (scans.newest begins (past self.now)) }
+        ensures { result ≡ due_skip (past self.now) (scans.newest begins (past self.now)) }
     {
         match self.progress.begun {
             None => None,

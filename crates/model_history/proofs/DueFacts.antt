@@ -19,7 +19,8 @@ use Rattle.model_history.specs.Scrolls.{next_pulls, next_clamps, accepted, activ
 use Rattle.model_history.specs.Tiles.{required, are_ready, missing_visible}
 use Rattle.model_history.specs.Ranking.{rank_to_start, evicted_for}
 use Rattle.page_layers.specs.Wheels.{wheel_parts, wheel_rest}
-use Rattle.model_history.specs.Due.{on_if, next_input, input_now, asks_draw, due_ready, due_abort, due_commit, due_activate, due_scroll, due_wheel, due_start, due_done, due_draw, is_over}
+use Rattle.model_history.specs.Due.{on_if, next_input, input_now, asks_draw, due_scroll, due_wheel, is_over}
+use Rattle.model_history.specs.DueParts.{due_ready, due_abort, due_commit, due_activate, due_start, due_done, due_draw}
 use Rattle.model_history.specs.Legal.{sched, Next}
 use Rattle.model_history.proofs.BoolFacts.{and_left, and_right, and_first, and_second, and_third, not_true}
 

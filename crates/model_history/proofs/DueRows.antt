@@ -14,7 +14,8 @@ use Rattle.model_history.specs.EventFields.{kind_of, actor_of, sends, begins}
 use Rattle.model_history.specs.Scans.{newest, held}
 use Rattle.model_history.specs.Frames.{pending}
 use Rattle.model_history.specs.Ranking.{rank_to_start}
-use Rattle.model_history.specs.Due.{on_if, next_input, input_now, due_ready, due_abort, due_commit, due_activate, due_scroll, due_wheel, due_start, due_done, due_draw, due_skip, due_await, due_settle, due}
+use Rattle.model_history.specs.Due.{on_if, next_input, input_now, due_scroll, due_wheel, due_await, due_settle, due}
+use Rattle.model_history.specs.DueParts.{due_ready, due_abort, due_commit, due_activate, due_start, due_done, due_draw, due_skip}
 
 -- an event of this kind may be asked for of this actor
 abbrev pub MayAsk : Kind → ℕ → Type 0

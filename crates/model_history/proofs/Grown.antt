@@ -32,9 +32,10 @@ use Rattle.model_history.specs.Scans.{was_named, counted, held}
 use Rattle.model_history.specs.Frames.{commands_of, page, main_move, changes, is_empty, pulls_of, is_left, active, pending, up_to, active_page, pending_page}
 use Rattle.model_history.specs.Stamps.{changed_by, unchanged, frame_changes, commits_to, place_rect, stamp_in}
 use Rattle.model_history.specs.Scrolls.{plus_counted, sum_of_moves, not_sent, by_send, in_base, in_delta, main_moves, base_of, delta_of, base, delta, offset, active_then, retired_then, pending_base, offset_then, scrolls_to, clobbers, pending_offset, unsent, scrollers_moved, next_pulls, next_clamps, accepted, active_offsets, pending_offsets}
-use Rattle.model_history.specs.Tiles.{Tree, active_tree, pending_tree, keys_of, visible_in, live_keys, made_so_far, in_flight, ready, required, pinned_by, pinned, are_ready, missing_visible}
+use Rattle.model_history.specs.Tiles.{Tree, active_tree, pending_tree, keys_of, visible_in, live_keys, made_so_far, in_flight, ready, required, pinned, are_ready, missing_visible}
 use Rattle.model_history.specs.Ranking.{rank_on, rank_in, rank, wanted, choice, rank_to_start, evicted_for}
-use Rattle.model_history.specs.Due.{on_if, next_input, input_now, asks_draw, due_ready, due_abort, due_activate, due_scroll, due_wheel, due_start, due_draw, due_await, due_settle, due}
+use Rattle.model_history.specs.Due.{on_if, next_input, input_now, asks_draw, due_scroll, due_wheel, due_await, due_settle, due}
+use Rattle.model_history.specs.DueParts.{due_ready, due_abort, due_activate, due_start, due_draw}
 use Rattle.model_history.specs.Legal.{Next, Legal}
 use Rattle.model_history.specs.Growth.{with_main_and_inputs, looks_ahead, has_looked_ahead, ReadsAlike, TellsAlike}
 use Rattle.model_history.specs.ScrollLaws.{carried_by, frame_in_flight, AreSums}
@@ -329,7 +330,7 @@ module _ (s : ScriptModel) (main : List (List Command)) (inputs : List Input) (m
       let w = pending_answered h (course s n h l.0) j in
       let r : required t h ≡ required s h = required_same h (omega (arith, a, g, few)) (omega (arith, w, g, few)) (moves_alike n h l.0 (omega (arith, c, d))) in
       let b : pinned t h ≡ pinned s h = pinned_same n h l.0 (omega (arith, g, few)) (omega (arith, c, d)) in
-      λ i. pinned_by (activates e.event) (r i) (b i)
+      λ i. cond (is_some (activates e.event)) (r i) (b i)
 
   pub legal_same : (n : ℕ) (h : List Entry) → Legal s n h → has_looked_ahead h ≡ false → counted sends h ≤ length main → counted answers h ≤ m → counted uses h ≤ u → Legal t n h
   legal_same n [] l q sent few c = tt

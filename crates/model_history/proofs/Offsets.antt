@@ -4,7 +4,8 @@ use Rattle.std.specs.Option.{option_or}
 use Rattle.std.proofs.lemmas.Int.{ints, clamps}
 use Rattle.model_states.specs.declared.Synced.{Synced}
 use Rattle.model_states.specs.Table as table
-use Rattle.page_layers.specs.Scrolls.{clamp_to, origin}
+use Rattle.page_layers.specs.Scrolls.{clamp_to}
+use Rattle.page_properties.specs.OffsetMap.{origin}
 use Rattle.page_layers.specs.Pages.{Page}
 use Rattle.page_layers.specs.Hits.{target}
 use Rattle.model_history.specs.declared.event.Event.{Event}

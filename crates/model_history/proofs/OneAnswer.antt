@@ -11,7 +11,8 @@ use Rattle.model_history.specs.Scripts.{ScriptModel}
 use Rattle.model_history.specs.EventFields.{kind_of, actor_of, sends, is_last}
 use Rattle.model_history.specs.Scans.{newest, has_ended}
 use Rattle.model_history.specs.Frames.{changes, pulls_of}
-use Rattle.model_history.specs.Due.{on_if, due, due_ready, due_abort}
+use Rattle.model_history.specs.Due.{on_if, due}
+use Rattle.model_history.specs.DueParts.{due_ready, due_abort}
 use Rattle.model_history.specs.Legal.{sched, Next, Legal, IsLegal}
 use Rattle.model_history.specs.FrameLaws.{AtEach, MayCome, OneOf, is_by_actor, is_stop, has_stopped}
 use Rattle.model_history.proofs.BoolFacts.{not_both, by_test, or_neither, or_left_false}

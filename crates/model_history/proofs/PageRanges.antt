@@ -7,7 +7,8 @@ use Rattle.page_properties.specs.Entries.{find}
 use Rattle.page_properties.specs.Entries as entries
 use Rattle.page_layers.specs.declared.command.Command.{Command}
 use Rattle.page_layers.specs.declared.command.Command.TheVariants as command
-use Rattle.page_layers.specs.Scrolls.{clamp_to, origin, or_origin}
+use Rattle.page_layers.specs.Scrolls.{clamp_to, or_origin}
+use Rattle.page_properties.specs.OffsetMap.{origin}
 use Rattle.page_layers.specs.Pages.{Page}
 use Rattle.page_layers.specs.Effects.{page_after_command, with_props, clamped_in, scrolled_to, scrolled_by, main_point, page_after_pulls, commanded}
 use Rattle.page_layers.specs.declared.moves.Move.{Move}

@@ -5,7 +5,7 @@ use Rattle.geom.specs.declared.rect.Point.{Point}
 use Rattle.geom.specs.declared.tile.TileKey.{TileKey}
 use Rattle.model_states.specs.declared.Synced.{Synced}
 use Rattle.model_states.specs.Table as table
-use Rattle.page_layers.specs.Scrolls.{origin}
+use Rattle.page_properties.specs.OffsetMap.{origin}
 use Rattle.page_layers.specs.Pages.{Page}
 use Rattle.model_history.specs.declared.event.Event.{Event}
 use Rattle.model_history.specs.declared.event.Event.TheVariants as event

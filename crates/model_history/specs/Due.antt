@@ -1,7 +1,5 @@
 -- What is due: the one event of a kind and an actor that may come after a past, if its further condition holds.
-use Rattle.std.specs.Prelude.{ℕ, ◌-◌, ◌==◌, nat_le, pos, Bool, true, false, cond, not, ◌&&◌, List, length, slice_get, is_some, Option, Some, None}
-use Rattle.geom.specs.declared.tile.TileKey.{TileKey}
-use Rattle.tile_priority.specs.declared.rank.Rank.{Rank}
+use Rattle.std.specs.Prelude.{ℕ, ◌-◌, ◌==◌, nat_le, pos, Bool, true, false, cond, not, ◌&&◌, List, length, slice_get, is_some, Option, Some, None, option_map, option_and_then, unwrap_or}
 use Rattle.model_states.specs.declared.kind.Kind.{Kind}
 use Rattle.model_states.specs.declared.kind.Kind.TheVariants as kind
 use Rattle.page_layers.specs.Hits.{target}
@@ -24,36 +22,16 @@ use Rattle.page_layers.specs.Wheels.{wheel_parts, wheel_rest}
 abbrev pub on_if : Bool → Event → Option Event
 on_if b e = cond b (Some e) None
 
--- the place of the first input that no event has used, and that input, if there is one
+-- the place of the first input that no event has used, that input, if there is one, and whether it is a draw
 abbrev pub next_input : List Entry → ℕ
 next_input h = counted uses h
 
 abbrev pub input_now : ScriptModel → List Entry → Option Input
 input_now s h = slice_get s.inputs (next_input h)
 
--- whether it is a draw
 abbrev pub asks_draw : Option Input → Bool
 asks_draw (Some input.Draw) = true
 asks_draw _ = false
-
--- the frame that was sent last is ready if it changes something, and else is aborted
-abbrev pub due_ready : ScriptModel → List Entry → Option ℕ → Option Event
-due_ready s h None = None
-due_ready s h (Some k) = on_if (changes s (pulls_of h) k) (event.Ready k)
-
-abbrev pub due_abort : ScriptModel → List Entry → Option ℕ → Option Event
-due_abort s h None = None
-due_abort s h (Some k) = on_if (not (changes s (pulls_of h) k)) (event.Abort k)
-
--- the frame that was sent last is committed
-abbrev pub due_commit : Option ℕ → Option Event
-due_commit None = None
-due_commit (Some k) = Some (event.Commit k)
-
--- the pending commit is activated if all that it needs is ready
-abbrev pub due_activate : ScriptModel → List Entry → Option ℕ → Option Event
-due_activate s h None = None
-due_activate s h (Some k) = on_if (are_ready s h (required s h)) (event.Activate k (next_clamps s h))
 
 -- a scroll moves its scroller as far as the active range allows
 abbrev pub due_scroll : ScriptModel → List Entry → ℕ → Option Input → Option Event
@@ -70,29 +48,9 @@ due_wheel s h i (Some (input.Wheel x y dx dy)) =
     (wheel_parts (active_page s h) (active_offsets s h) (pos x) (pos y) dx dy))
 due_wheel s h i _ = None
 
--- a worker that holds nothing starts the first tile, and what is in its way is evicted
-abbrev pub due_start : ScriptModel → List Entry → ℕ → Option TileKey → Option Rank → Option Event
-due_start s h w None (Some r) = Some (event.Start w r.key (evicted_for s h r))
-due_start s h w _ _ = None
-
--- a worker is done with the tile that it holds
-abbrev pub due_done : ℕ → Option TileKey → Option Event
-due_done w None = None
-due_done w (Some q) = Some (event.DoneTile w q)
-
--- the draw for which the impl frame was begun draws the active tree, or is skipped if there is none
-abbrev pub due_draw : ScriptModel → List Entry → Option ℕ → Option Event
-due_draw s h None = None
-due_draw s h (Some i) = on_if (is_some (active h)) (event.Draw i (missing_visible s h))
-
-abbrev pub due_skip : List Entry → Option ℕ → Option Event
-due_skip h None = None
-due_skip h (Some i) = on_if (not (is_some (active h))) (event.Skip i)
-
 -- a commit of a frame up to f is pending
 abbrev pub is_pending_to : ℕ → Option ℕ → Bool
-is_pending_to f None = false
-is_pending_to f (Some k) = nat_le k f
+is_pending_to f o = unwrap_or (option_map (λ k. nat_le k f) o) false
 
 -- an await is over if its frame has ended and no commit up to it is pending
 abbrev pub due_await : List Entry → ℕ → Option Input → Option Event
@@ -117,16 +75,16 @@ abbrev pub due : ScriptModel → List Entry → Kind → ℕ → Option Event
 due s h kind.BeginDraw a = on_if (asks_draw (input_now s h)) (event.Begin (next_input h))
 due s h kind.BeginPlain a = on_if (not (asks_draw (input_now s h)) && is_left s h) event.BeginPlain
 due s h kind.Send a = on_if (is_left s h) (event.Send (counted sends h) (next_pulls s h))
-due s h kind.Ready a = due_ready s h (newest sends h)
-due s h kind.Abort a = due_abort s h (newest sends h)
-due s h kind.Commit a = due_commit (newest sends h)
-due s h kind.Activate a = due_activate s h (pending h)
+due s h kind.Ready a = option_and_then (λ k. on_if (changes s (pulls_of h) k) (event.Ready k)) (newest sends h)
+due s h kind.Abort a = option_and_then (λ k. on_if (not (changes s (pulls_of h) k)) (event.Abort k)) (newest sends h)
+due s h kind.Commit a = option_map event.Commit (newest sends h)
+due s h kind.Activate a = option_and_then (λ k. on_if (are_ready s h (required s h)) (event.Activate k (next_clamps s h))) (pending h)
 due s h kind.Scroll a = due_scroll s h (next_input h) (input_now s h)
 due s h kind.Wheel a = due_wheel s h (next_input h) (input_now s h)
-due s h kind.Start a = due_start s h (a - 2) (held (a - 2) h) (rank_to_start s h)
-due s h kind.Done a = due_done (a - 2) (held (a - 2) h)
-due s h kind.Draw a = due_draw s h (newest begins h)
-due s h kind.Skip a = due_skip h (newest begins h)
+due s h kind.Start a = cond (is_some (held (a - 2) h)) None (option_map (λ r. event.Start (a - 2) r.key (evicted_for s h r)) (rank_to_start s h))
+due s h kind.Done a = option_map (event.DoneTile (a - 2)) (held (a - 2) h)
+due s h kind.Draw a = option_and_then (λ i. on_if (is_some (active h)) (event.Draw i (missing_visible s h))) (newest begins h)
+due s h kind.Skip a = option_and_then (λ i. on_if (not (is_some (active h))) (event.Skip i)) (newest begins h)
 due s h kind.NoDraw a = Some event.NoDraw
 due s h kind.Finish a = Some event.Finish
 due s h kind.Await a = due_await h (next_input h) (input_now s h)

@@ -14,6 +14,7 @@ pub mod Stamps
 pub mod Tiles
 pub mod Ranking
 pub mod Due
+pub mod DueParts
 pub mod Legal
 pub mod Growth
 pub mod Lockstep

@@ -20,7 +20,8 @@ use Rattle.model_history.specs.Scans.{newest, counted, held, has_ended}
 use Rattle.model_history.specs.Tiles.{without_keys, in_flight}
 use Rattle.geom.specs.KeyLists.{same_key, has_key}
 use Rattle.model_history.specs.Ranking.{rank_to_start, evicted_for}
-use Rattle.model_history.specs.Due.{due, due_start, next_input}
+use Rattle.model_history.specs.Due.{due, next_input}
+use Rattle.model_history.specs.DueParts.{due_start}
 use Rattle.model_history.specs.Legal.{sched, can, Legal}
 use Rattle.model_history.specs.Lockstep.{Step, Enters, Where, While, Pair, waits}
 use Rattle.model_history.proofs.BoolFacts.{or_neither, by_test}

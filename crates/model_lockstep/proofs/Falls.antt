@@ -14,7 +14,8 @@ use Rattle.model_history.specs.Frames.{is_left, pending, unless_activated}
 use Rattle.model_history.specs.Scrolls.{next_pulls, next_clamps}
 use Rattle.model_history.specs.Tiles.{required, are_ready}
 use Rattle.model_history.specs.Ranking.{rank_to_start, evicted_for}
-use Rattle.model_history.specs.Due.{on_if, due_start, due_done, due_activate, input_now, asks_draw}
+use Rattle.model_history.specs.Due.{on_if, input_now, asks_draw}
+use Rattle.model_history.specs.DueParts.{due_start, due_done, due_activate}
 use Rattle.model_history.specs.Lockstep.{Enters, Stays, Then, Where, waits, is_possible, Pair, MainPart, ActivateNow, PlainFrame, Round}
 use Rattle.model_history.proofs.BoolFacts.{and_right, or_left, is_same}
 use Rattle.model_history.proofs.DueFacts.{entry}

@@ -15,7 +15,8 @@ use Rattle.model_history.specs.EventFields.{sends}
 use Rattle.model_history.specs.Scans.{newest, counted}
 use Rattle.model_history.specs.Frames.{active, changes, pulls_of, is_left}
 use Rattle.model_history.specs.Scrolls.{next_pulls}
-use Rattle.model_history.specs.Due.{on_if, due_ready, due_abort}
+use Rattle.model_history.specs.Due.{on_if}
+use Rattle.model_history.specs.DueParts.{due_ready, due_abort}
 use Rattle.model_history.specs.Legal.{is_open}
 use Rattle.model_history.specs.Lockstep.{Enters, Stays, Then, AtMost, waits, may_send, has_first, is_possible, Pair, MainPart, ActivateNow, Round, DrawFrame, InputStep, InputSteps, WholeRun, IsLockstep}
 use Rattle.model_history.proofs.BoolFacts.{by_test}

@@ -17,7 +17,8 @@ use Rattle.model_history.specs.Frames.{changes, pulls_of, is_left, active, pendi
 use Rattle.model_history.specs.Scrolls.{next_pulls, next_clamps}
 use Rattle.model_history.specs.Tiles.{required, are_ready, missing_visible}
 use Rattle.model_history.specs.Ranking.{rank_to_start}
-use Rattle.model_history.specs.Due.{on_if, due, due_activate, due_draw, due_skip, next_input, input_now, asks_draw}
+use Rattle.model_history.specs.Due.{on_if, due, next_input, input_now, asks_draw}
+use Rattle.model_history.specs.DueParts.{due_activate, due_draw, due_skip}
 use Rattle.model_history.specs.Lockstep.{Step, Enters, Stays, Then, Where, AtMost, waits, may_send, has_first, is_possible, Pair, MainPart, ActivateNow, PlainFrame, Round, DrawFrame}
 use Rattle.model_history.proofs.BoolFacts.{by_test, and_left, and_right, and_both, or_either, not_true, not_false, none_or_some, is_below}
 use Rattle.model_history.proofs.DueFacts.{entry}

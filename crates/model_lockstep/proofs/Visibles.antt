@@ -36,7 +36,8 @@ use Rattle.model_history.specs.Tiles.{Tree, active_tree, pending_tree, keys_of, 
 use Rattle.model_history.specs.Ranking.{borders, place_named, rank_on, rank_in, rank as key_rank, is_unmade, wanted, choice, rank_to_start}
 use Rattle.model_history.specs.Scans.{has_ended}
 use Rattle.model_history.specs.Scrolls.{next_clamps}
-use Rattle.model_history.specs.Due.{on_if, due_activate}
+use Rattle.model_history.specs.Due.{on_if}
+use Rattle.model_history.specs.DueParts.{due_activate}
 use Rattle.model_history.specs.Legal.{sched, is_open, Legal}
 use Rattle.model_history.specs.Lockstep.{is_possible}
 use Rattle.model_history.specs.declared.event.Event.TheVariants as event

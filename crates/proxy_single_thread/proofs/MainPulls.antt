@@ -9,7 +9,8 @@ use Rattle.model_history.specs.Scripts.{ScriptModel}
 use Rattle.model_history.specs.EventFields.{sends}
 use Rattle.model_history.specs.Scans.{has_ended, newest, counted}
 use Rattle.model_history.specs.Frames.{changes, pulls_in, pulls_of}
-use Rattle.model_history.specs.Due.{due, on_if, due_ready, due_abort}
+use Rattle.model_history.specs.Due.{due, on_if}
+use Rattle.model_history.specs.DueParts.{due_ready, due_abort}
 use Rattle.model_history.specs.Legal.{sched, can, Legal}
 use Rattle.model_history.proofs.Course.{Course, course, sent_not_idle}
 use Rattle.impl_log.specs.Runs.{Run, past}

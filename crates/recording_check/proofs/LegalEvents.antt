@@ -16,7 +16,8 @@ use Rattle.model_history.specs.declared.input.Input.{Input}
 use Rattle.model_history.specs.declared.input.Input.TheVariants as input
 use Rattle.model_history.specs.Scripts.{ScriptModel}
 use Rattle.model_history.specs.Accepted.{IsPlayable}
-use Rattle.model_history.specs.Due.{input_now, next_input, asks_draw, due_skip, due_await, due_settle, is_pending_to, is_settled}
+use Rattle.model_history.specs.Due.{input_now, next_input, asks_draw, due_await, due_settle, is_pending_to, is_settled}
+use Rattle.model_history.specs.DueParts.{due_skip}
 use Rattle.model_history.specs.EventFields.{sends, begins, pulls, moves, scroll_move}
 use Rattle.model_history.specs.FrameLaws.{AtEach}
 use Rattle.model_history.specs.Frames.{pulls_of, active, pending, up_to, active_page, pending_page, has_frame_ended}

@@ -13,7 +13,7 @@ use Rattle.model_history.specs.EventFields.{begins}
 use Rattle.model_history.specs.Scans.{newest}
 use Rattle.model_history.specs.Frames.{active, active_page}
 use Rattle.model_history.specs.Scrolls.{active_offsets}
-use Rattle.model_history.specs.Due.{due_draw}
+use Rattle.model_history.specs.DueParts.{due_draw}
 use Rattle.model_history.specs.Legal.{Next}
 use Rattle.model_history.specs.Recordings.{image, shown_image}
 use Rattle.model_history.specs.Scripts.{ScriptModel}

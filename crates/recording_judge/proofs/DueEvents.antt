@@ -19,7 +19,8 @@ use Rattle.model_history.proofs.BoolFacts.{is_false, is_same, same_number}
 use Rattle.model_history.specs.Scrolls.{accepted, next_pulls, next_clamps, active_offsets}
 use Rattle.model_history.specs.Tiles.{required, are_ready, missing_visible}
 use Rattle.model_history.specs.Ranking.{rank_to_start, evicted_for}
-use Rattle.model_history.specs.Due.{due, on_if, next_input, input_now, due_activate, due_scroll, due_wheel, due_start, due_done, due_draw}
+use Rattle.model_history.specs.Due.{due, on_if, next_input, input_now, due_scroll, due_wheel}
+use Rattle.model_history.specs.DueParts.{due_activate, due_start, due_done, due_draw}
 use Rattle.recording_judge.specs.inner.States.{IsFirstKey}
 
 module _ (s : ScriptModel) (h : List Entry) where

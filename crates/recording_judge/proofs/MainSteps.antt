@@ -16,7 +16,8 @@ use Rattle.model_history.specs.Scans.{has_ended, newest, counted}
 use Rattle.model_history.specs.Frames.{page, changes, pulls_in, pulls_of, commands_of}
 use Rattle.model_history.specs.Stamps.{changed_by, unchanged, frame_changes}
 use Rattle.model_history.specs.SameChanges.{SameChanges}
-use Rattle.model_history.specs.Due.{due, on_if, due_ready, due_abort}
+use Rattle.model_history.specs.Due.{due, on_if}
+use Rattle.model_history.specs.DueParts.{due_ready, due_abort}
 use Rattle.model_history.specs.Legal.{sched, is_open, Legal}
 use Rattle.model_history.proofs.BoolFacts.{is_other, is_same, and_right, not_both}
 use Rattle.model_history.proofs.Course.{course, sent_not_idle, ready_not_idle}
