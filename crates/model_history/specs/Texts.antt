@@ -8,7 +8,7 @@ use Rattle.page_layers.specs.declared.moves.Move.{Move}
 use Rattle.model_history.specs.declared.event.Event.{Event}
 use Rattle.model_history.specs.declared.event.Event.TheVariants as event
 
--- a number and the byte before it
+-- a field: a number and the byte before it; as bytes plain decimal digits, with `-` in front of a number below 0
 pub record Field : Type 0 where
   pub before : ℕ
   pub number : ℤ
@@ -16,78 +16,49 @@ pub record Field : Type 0 where
 abbrev pub field : ℕ → ℤ → Field
 field before number = record { before = before; number = number }
 
--- a field as bytes: plain decimal digits, with `-` in front of a number below 0
 abbrev pub field_text : Field → List ℕ
 field_text f = f.before ∷ signed_decimal f.number
 
 abbrev pub fields_text : List Field → List ℕ
 fields_text fs = flat_map field_text fs
 
--- a space and a number
+-- a space and a number; ` x,y`; ` layer/x/y/stamp`; ` scroller:dx,dy`
 abbrev pub spaced : ℕ → List Field
 spaced n = field 32 (pos n) ∷ []
 
--- a space and two numbers with a comma between: ` x,y`
 abbrev pub pair_fields : ℤ → ℤ → List Field
 pair_fields x y = field 32 x ∷ field 44 y ∷ []
 
--- ` layer/x/y/stamp`
 abbrev pub key_fields : TileKey → List Field
 key_fields k = field 32 (pos k.layer) ∷ field 47 (pos k.x) ∷ field 47 (pos k.y) ∷ field 47 (pos k.stamp) ∷ []
 
--- ` scroller:dx,dy`
 abbrev pub move_fields : Move → List Field
 move_fields m = field 32 (pos m.scroller) ∷ field 58 m.dx ∷ field 44 m.dy ∷ []
 
--- the word of each event
-abbrev pub word : Event → List ℕ
-word (event.Begin input) = codes "begin"
-word event.BeginPlain = codes "begin -"
-word (event.Send frame pulls) = codes "send"
-word (event.Ready frame) = codes "ready"
-word (event.Abort frame) = codes "abort"
-word (event.Commit frame) = codes "commit"
-word (event.Activate frame clamps) = codes "activate"
-word (event.Scroll input dx dy) = codes "scroll"
-word (event.Wheel input target rest_x rest_y moves) = codes "wheel"
-word (event.Start worker key evicted) = codes "start"
-word (event.DoneTile worker key) = codes "done"
-word (event.Draw input missing) = codes "draw"
-word (event.Skip input) = codes "skip"
-word event.NoDraw = codes "nodraw"
-word event.Finish = codes "finish"
-word (event.Await input) = codes "await"
-word (event.Settle input) = codes "settle"
-word event.End = codes "end"
-word (event.Stop actor) = codes "stop"
-
--- the fields of each event, in order
-abbrev pub fields : Event → List Field
-fields (event.Begin input) = spaced input
-fields event.BeginPlain = []
-fields (event.Send frame pulls) = spaced frame ++ flat_map move_fields pulls
-fields (event.Ready frame) = spaced frame
-fields (event.Abort frame) = spaced frame
-fields (event.Commit frame) = spaced frame
-fields (event.Activate frame clamps) = spaced frame ++ flat_map move_fields clamps
-fields (event.Scroll input dx dy) = spaced input ++ pair_fields dx dy
-fields (event.Wheel input target rest_x rest_y moves) =
-    (spaced input ++ spaced target) ++ pair_fields rest_x rest_y ++ flat_map move_fields moves
-fields (event.Start worker key evicted) = (spaced worker ++ key_fields key) ++ flat_map key_fields evicted
-fields (event.DoneTile worker key) = spaced worker ++ key_fields key
-fields (event.Draw input missing) = spaced input ++ flat_map key_fields missing
-fields (event.Skip input) = spaced input
-fields event.NoDraw = []
-fields event.Finish = []
-fields (event.Await input) = spaced input
-fields (event.Settle input) = spaced input
-fields event.End = []
-fields (event.Stop actor) = spaced actor
-
--- the text of an event, without its newline
+-- the text of each event, without its newline: its word and its fields
 unfoldable pub event_text : Event → List ℕ
-event_text e = word e ++ fields_text (fields e)
+event_text (event.Begin input) = codes "begin" ++ fields_text (spaced input)
+event_text event.BeginPlain = codes "begin -"
+event_text (event.Send frame pulls) = codes "send" ++ fields_text (spaced frame ++ flat_map move_fields pulls)
+event_text (event.Ready frame) = codes "ready" ++ fields_text (spaced frame)
+event_text (event.Abort frame) = codes "abort" ++ fields_text (spaced frame)
+event_text (event.Commit frame) = codes "commit" ++ fields_text (spaced frame)
+event_text (event.Activate frame clamps) = codes "activate" ++ fields_text (spaced frame ++ flat_map move_fields clamps)
+event_text (event.Scroll input dx dy) = codes "scroll" ++ fields_text (spaced input ++ pair_fields dx dy)
+event_text (event.Wheel input target rest_x rest_y moves) =
+    codes "wheel" ++ fields_text ((spaced input ++ spaced target) ++ pair_fields rest_x rest_y ++ flat_map move_fields moves)
+event_text (event.Start worker key evicted) =
+    codes "start" ++ fields_text ((spaced worker ++ key_fields key) ++ flat_map key_fields evicted)
+event_text (event.DoneTile worker key) = codes "done" ++ fields_text (spaced worker ++ key_fields key)
+event_text (event.Draw input missing) = codes "draw" ++ fields_text (spaced input ++ flat_map key_fields missing)
+event_text (event.Skip input) = codes "skip" ++ fields_text (spaced input)
+event_text event.NoDraw = codes "nodraw"
+event_text event.Finish = codes "finish"
+event_text (event.Await input) = codes "await" ++ fields_text (spaced input)
+event_text (event.Settle input) = codes "settle" ++ fields_text (spaced input)
+event_text event.End = codes "end"
+event_text (event.Stop actor) = codes "stop" ++ fields_text (spaced actor)
 
--- the line of an event: its word, its fields and a newline
+-- the line of an event
 unfoldable pub event_line : Event → List ℕ
 event_line e = event_text e ++ 10 ∷ []
