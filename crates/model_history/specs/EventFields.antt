@@ -1,5 +1,6 @@
 -- What an event says in each field: which frame it sends, which tile it starts, and so on.
 use Rattle.std.specs.Prelude.{ℕ, ◌+◌, ◌==◌, ℤ, Bool, true, false, cond, List, [], ◌∷◌, slice_get, Option, Some, None}
+use Rattle.std.specs.Option.{option_or}
 use Rattle.geom.specs.declared.tile.TileKey.{TileKey}
 use Rattle.model_states.specs.declared.kind.Kind.{Kind}
 use Rattle.model_states.specs.declared.kind.Kind.TheVariants as kind
@@ -41,20 +42,22 @@ actor_of (event.DoneTile w q) = 2 + w
 actor_of (event.Stop a) = a
 actor_of _ = 0
 
--- the frame that the event sends
+-- the frame that an event sends, aborts, commits, or whose commit it activates
 abbrev pub sends : Event → Option ℕ
 sends (event.Send k pulls) = Some k
 sends _ = None
 
--- what it tells the main side
-abbrev pub pulls : Event → List Move
-pulls (event.Send k ms) = ms
-pulls _ = []
-
--- the frame that it aborts
 abbrev pub aborts : Event → Option ℕ
 aborts (event.Abort k) = Some k
 aborts _ = None
+
+abbrev pub commits : Event → Option ℕ
+commits (event.Commit k) = Some k
+commits _ = None
+
+abbrev pub activates : Event → Option ℕ
+activates (event.Activate k clamps) = Some k
+activates _ = None
 
 -- the frame that it answers: the main side has taken its commands, and says whether they changed something
 abbrev pub answers : Event → Option ℕ
@@ -62,21 +65,14 @@ answers (event.Ready k) = Some k
 answers (event.Abort k) = Some k
 answers _ = None
 
--- the frame that it commits
-abbrev pub commits : Event → Option ℕ
-commits (event.Commit k) = Some k
-commits _ = None
-
--- the frame whose commit it activates
-abbrev pub activates : Event → Option ℕ
-activates (event.Activate k clamps) = Some k
-activates _ = None
+-- what a send tells the main side
+abbrev pub pulls : Event → List Move
+pulls (event.Send k ms) = ms
+pulls _ = []
 
 -- the frame whose moves it brings into the base
 abbrev pub retires : Event → Option ℕ
-retires (event.Abort k) = Some k
-retires (event.Activate k clamps) = Some k
-retires _ = None
+retires e = option_or (aborts e) (activates e)
 
 -- the draw for which it begins an impl frame
 abbrev pub begins : Event → Option ℕ
@@ -104,17 +100,15 @@ moves s (event.Scroll i dx dy) = scroll_move (slice_get s.inputs i) dx dy
 moves s (event.Wheel i target rest_x rest_y parts) = parts
 moves s _ = []
 
--- the tile that it starts
+-- the tile that a start names, the ready tiles that it evicts, and the tile that an event has made
 abbrev pub starts : Event → List TileKey
 starts (event.Start w q evicted) = q ∷ []
 starts _ = []
 
--- the ready tiles that it evicts
 abbrev pub evicts : Event → List TileKey
 evicts (event.Start w q evicted) = evicted
 evicts _ = []
 
--- the tile that it has made
 abbrev pub finishes : Event → List TileKey
 finishes (event.DoneTile w q) = q ∷ []
 finishes _ = []

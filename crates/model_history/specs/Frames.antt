@@ -1,7 +1,7 @@
 -- Main frames: the page after each, and which of them are active and pending.
 --
 -- Pages are counted by frames: page n is the page after the frames 0 to n - 1.
-use Rattle.std.specs.Prelude.{ℕ, zero, suc, ℤ, pos, ◌-ℤ◌, Bool, true, false, cond, not, ◌&&◌, ◌||◌, nat_lt, List, [], ◌∷◌, ◌++◌, length, slice_index_or, Option, Some, None}
+use Rattle.std.specs.Prelude.{ℕ, zero, suc, ℤ, pos, ◌-ℤ◌, Bool, true, false, cond, not, ◌&&◌, ◌||◌, nat_lt, List, [], ◌∷◌, ◌++◌, length, slice_index_or, Option, Some, None, option_and_then}
 use Rattle.std.specs.List.{list_any}
 use Rattle.std.specs.Ordering.{int_eq}
 use Rattle.page_layers.specs.declared.command.Command.{Command}
@@ -72,18 +72,16 @@ is_left s h = nat_lt (counted sends h) (length s.main)
 abbrev pub has_frame_ended : List Entry → ℕ → Bool
 has_frame_ended h k = was_named commits h k || was_named aborts h k
 
--- the frame that was activated last
+-- the frame that was activated last, and the one that was committed last, if it was not activated
 abbrev pub active : List Entry → Option ℕ
 active h = newest activates h
 
--- a frame, unless it was activated
-abbrev pub unless_activated : List Entry → Option ℕ → Option ℕ
-unless_activated h None = None
-unless_activated h (Some k) = cond (was_named activates h k) None (Some k)
-
--- the frame that was committed last, if it was not activated
 abbrev pub pending : List Entry → Option ℕ
-pending h = unless_activated h (newest commits h)
+pending h = option_and_then (λ k. cond (was_named activates h k) None (Some k)) (newest commits h)
+
+-- the same of any frame, by name: proofs speak of it
+abbrev pub unless_activated : List Entry → Option ℕ → Option ℕ
+unless_activated h frame = option_and_then (λ k. cond (was_named activates h k) None (Some k)) frame
 
 -- how many frames there are up to this one
 abbrev pub up_to : Option ℕ → ℕ

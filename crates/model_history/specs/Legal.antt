@@ -23,17 +23,12 @@ is_open h k = not (has_ended h) && may (sched h) k
 abbrev pub can : ScriptModel → List Entry → Kind → ℕ → Option Event
 can s h k a = cond (is_open h k) (due s h k a) None
 
--- the entry may come next after this past, in a run with the given number of workers
+-- the entry may come next after this past, in a run with the given number of workers: nothing has ended the run, the scheduler's state allows its kind, it is what is due, and its actor is the one whose event it is: the compositor, the main side or one of the workers
 pub record Next (s : ScriptModel) (workers : ℕ) (h : List Entry) (e : Entry) : Type 0 where
-  -- no end and no stop stands
   pub going : has_ended h ≡ false
-  -- the scheduler's state allows its kind
   pub state : may (sched h) (kind_of e.event) ≡ true
-  -- it is what is due
   pub is_due : due s h (kind_of e.event) e.actor ≡ Some e.event
-  -- its actor is the one whose event it is
   pub actor : e.actor ≡ actor_of e.event
-  -- that actor is the compositor, the main side or one of the workers
   pub within : e.actor < 2 + workers
 
 -- each entry might come after those before it

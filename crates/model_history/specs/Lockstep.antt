@@ -17,28 +17,25 @@ use Rattle.model_history.specs.Legal.{can}
 abbrev pub Step : Type 1
 Step = List Entry → List Entry → Type 0
 
--- the event of this kind and actor comes
+-- the event of this kind and actor comes; nothing comes
 abbrev pub Enters : ScriptModel → Kind → ℕ → Step
 Enters s k a h g = (e : Event) × (can s h k a ≡ Some e) × (g ≡ record { actor = a; event = e } ∷ h)
 
--- nothing comes
 abbrev pub Stays : Step
 Stays h g = g ≡ h
 
--- first P, then Q
+-- first P, then Q; P if the test holds of the past, else Q
 abbrev pub Then : Step → Step → Step
 Then P Q h g = (m : List Entry) × P h m × Q m g
 
--- P if the test holds of the past, else Q
 abbrev pub Where : (List Entry → Bool) → Step → Step → Step
 Where test P Q h g = MatchBool (test h) (P h g) (Q h g)
 
--- P n times, each time with the test holding, and then it holds no more
+-- P as long as the test holds: n times, each time with the test holding, and then it holds no more
 abbrev pub Times : (List Entry → Bool) → Step → ℕ → Step
 Times test P zero h g = (test h ≡ false) × (g ≡ h)
 Times test P (suc n) h g = (test h ≡ true) × (m : List Entry) × P h m × Times test P n m g
 
--- P as long as the test holds
 abbrev pub While : (List Entry → Bool) → Step → Step
 While test P h g = (n : ℕ) × Times test P n h g
 
@@ -47,19 +44,16 @@ abbrev pub AtMost : ℕ → (List Entry → Bool) → Step → Step
 AtMost zero test P = Stays
 AtMost (suc n) test P = Where test (Then P (AtMost n test P)) Stays
 
--- a commit is pending
+-- a commit is pending; a main frame is left, and none is pending; a tile may start; an event of this kind and actor may come
 abbrev pub waits : List Entry → Bool
 waits h = is_some (pending h)
 
--- a main frame is left, and no commit is pending
 abbrev pub may_send : ScriptModel → List Entry → Bool
 may_send s h = is_left s h && not (waits h)
 
--- a tile may start
 abbrev pub has_first : ScriptModel → List Entry → Bool
 has_first s h = is_some (rank_to_start s h)
 
--- an event of this kind and actor may come
 abbrev pub is_possible : ScriptModel → Kind → ℕ → List Entry → Bool
 is_possible s k a h = is_some (can s h k a)
 

@@ -1,5 +1,5 @@
 -- Which tile is made next, and which ready tiles are evicted for it.
-use Rattle.std.specs.Prelude.{Bool, cond, not, ◌&&◌, List, length, map, filter, filter_map, find, Option, Some, None}
+use Rattle.std.specs.Prelude.{Bool, cond, not, ◌&&◌, List, length, map, filter, filter_map, find, Option, None, option_and_then}
 use Rattle.geom.specs.declared.tile.Place.{Place}
 use Rattle.geom.specs.declared.tile.TileKey.{TileKey}
 use Rattle.tile_priority.specs.declared.rank.Rank.{Rank}
@@ -19,18 +19,16 @@ use Rattle.tile_visible.specs.Visible.{viewport, seen}
 use Rattle.geom.specs.KeyLists.{has_key}
 use Rattle.model_history.specs.Tiles.{Tree, active_tree, pending_tree, keys_of, live_keys, ready, in_flight, pinned}
 
--- by what the tiles of a page are ranked: its viewport, and the distances and the tree priority of the script
+-- by what the tiles of a page are ranked: its viewport, and the distances and the tree priority of the script; and the place that a key names
 abbrev pub borders : ScriptModel → Page → Borders
 borders s p = record { viewport = viewport p; soon = s.soon; eventually = s.eventually; priority = s.priority }
 
--- the place that a key names
 abbrev pub place_named : TileKey → Place
 place_named q = record { x = q.x; y = q.y }
 
 -- the rank of a place of a page, if its tile has a bin
 abbrev pub rank_on : ScriptModel → Side → Tree → TileKey → Option PageLayer → Option Rank
-rank_on s side t q None = None
-rank_on s side t q (Some l) = rank_of (borders s t.page) side (seen t.page t.offset l (place_named q)) q
+rank_on s side t q layer = option_and_then (λ l. rank_of (borders s t.page) side (seen t.page t.offset l (place_named q)) q) layer
 
 -- the rank of a key in a tree; none if the tree lacks the key, or its tile has no bin
 unfoldable pub rank_in : ScriptModel → Side → Tree → TileKey → Option Rank

@@ -20,11 +20,10 @@ joined_to (suc n) f = joined_to n f ++ f n
 unfoldable pub image_head : ℕ → ℕ → List ℕ
 image_head w h = (((codes "P6\n" ++ decimal w) ++ codes " ") ++ decimal h) ++ codes "\n255\n"
 
--- a pixel in a picture file: red, green and blue
+-- a row of a picture, from the left, and a pixel in it: red, green and blue
 abbrev pub rgb : Parts → List ℕ
 rgb c = c.r ∷ c.g ∷ c.b ∷ []
 
--- a row of a picture, from the left
 unfoldable pub image_row : (ℕ → ℕ → Parts) → ℕ → ℕ → List ℕ
 image_row pixel w y = joined_to w (λ x. rgb (pixel x y))
 

@@ -8,12 +8,11 @@ use Rattle.model_history.specs.declared.event.Event.{Event}
 use Rattle.model_history.specs.declared.history.Entry.{Entry}
 use Rattle.model_history.specs.EventFields.{held_after, is_last}
 
--- whether it is this number
+-- whether it is this number; whether an event of the history names it in this field
 abbrev pub names : Option ℕ → ℕ → Bool
 names None n = false
 names (Some m) n = m == n
 
--- whether an event of the history names n in this field
 abbrev pub was_named : (Event → Option ℕ) → List Entry → ℕ → Bool
 was_named f [] n = false
 was_named f (e ∷ h) n = names (f e.event) n || was_named f h n
@@ -23,12 +22,11 @@ abbrev pub newest : (Event → Option ℕ) → List Entry → Option ℕ
 newest f [] = None
 newest f (e ∷ h) = option_or (f e.event) (newest f h)
 
--- a count, one higher if something is named
+-- how many such events there are; each adds one
 abbrev pub one_more : Option ℕ → ℕ → ℕ
 one_more None n = n
 one_more (Some m) n = suc n
 
--- how many such events there are
 abbrev pub counted : (Event → Option ℕ) → List Entry → ℕ
 counted f [] = zero
 counted f (e ∷ h) = one_more (f e.event) (counted f h)

@@ -1,7 +1,7 @@
 -- Where the scrollers stand: the sums of all that has moved them.
 --
 -- A move that an event accepts is carried by the first `send` after it. It is in the base if that frame was aborted, or committed and activated; else it is in the delta.
-use Rattle.std.specs.Prelude.{ℕ, zero, suc, ℤ, pos, ◌+ℤ◌, ◌-ℤ◌, Bool, true, false, cond, not, ◌==◌, ◌||◌, List, [], ◌∷◌, Option, Some, None}
+use Rattle.std.specs.Prelude.{ℕ, zero, suc, ℤ, pos, ◌+ℤ◌, ◌-ℤ◌, Bool, true, false, cond, not, ◌==◌, ◌||◌, List, [], ◌∷◌, Option, None, is_some, option_map, unwrap_or}
 use Rattle.std.specs.List.{list_any}
 use Rattle.std.specs.Option.{option_or}
 use Rattle.geom.specs.declared.rect.Point.{Point}
@@ -29,8 +29,7 @@ sum_of_moves s sc ax counts carrier (e ∷ h) = plus_counted sc ax (moves s e.ev
 
 -- no send carries the move yet
 abbrev pub not_sent : Option ℕ → Bool
-not_sent None = true
-not_sent (Some k) = false
+not_sent carrier = not (is_some carrier)
 
 -- the send of frame k carries it
 abbrev pub by_send : ℕ → Option ℕ → Bool
@@ -38,8 +37,7 @@ by_send k c = names c k
 
 -- the move is in the base, if these frames were retired; else it is in the delta
 abbrev pub in_base : (ℕ → Bool) → Option ℕ → Bool
-in_base retired None = false
-in_base retired (Some k) = retired k
+in_base retired carrier = unwrap_or (option_map retired carrier) false
 
 abbrev pub in_delta : (ℕ → Bool) → Option ℕ → Bool
 in_delta retired c = not (in_base retired c)
@@ -60,39 +58,37 @@ base_of s h a retired sc ax = main_moves s (pulls_of h) (was_named commits h) sc
 abbrev pub delta_of : ScriptModel → List Entry → (ℕ → Bool) → ℕ → Axis → ℤ
 delta_of s h retired sc ax = sum_of_moves s sc ax (in_delta retired) None h
 
--- of a scroller the base, which is the main moves of the committed frames up to the active one and the moves whose carrier was aborted or activated; the delta, which is all other moves; and the offset, the sum of both
+-- the offset of a scroller: the base, which is the main moves of the committed frames up to the active one and the moves whose carrier was aborted or activated; and the delta, which is all other moves
+abbrev pub offset : ScriptModel → List Entry → ℕ → Axis → ℤ
+offset s h sc ax = base_of s h (active h) (was_named retires h) sc ax +ℤ delta_of s h (was_named retires h) sc ax
+
+-- base and delta by name
 abbrev pub base : ScriptModel → List Entry → ℕ → Axis → ℤ
 base s h sc ax = base_of s h (active h) (was_named retires h) sc ax
 
 abbrev pub delta : ScriptModel → List Entry → ℕ → Axis → ℤ
 delta s h sc ax = delta_of s h (was_named retires h) sc ax
 
-abbrev pub offset : ScriptModel → List Entry → ℕ → Axis → ℤ
-offset s h sc ax = base s h sc ax +ℤ delta s h sc ax
-
--- the active frame, and the retired frames, as if the pending commit were active
+-- the active frame, the retired frames, the base and the offset as if the pending commit were active
 abbrev pub active_then : List Entry → Option ℕ
 active_then h = option_or (pending h) (active h)
 
 abbrev pub retired_then : List Entry → ℕ → Bool
 retired_then h k = names (pending h) k || was_named retires h k
 
--- the base and the offset as if the pending commit were active
 abbrev pub pending_base : ScriptModel → List Entry → ℕ → Axis → ℤ
 pending_base s h sc ax = base_of s h (active_then h) (retired_then h) sc ax
 
 abbrev pub offset_then : ScriptModel → List Entry → ℕ → Axis → ℤ
 offset_then s h sc ax = pending_base s h sc ax +ℤ delta_of s h (retired_then h) sc ax
 
--- whether a command sets the value of a scroller outright
+-- a commit clobbers a scroller if its main frame has a command that sets its value outright, a `scroll_to`
 abbrev pub scrolls_to : ℕ → Command → Bool
 scrolls_to sc (command.ScrollTo c) = c.id == sc
 scrolls_to sc _ = false
 
--- a commit clobbers a scroller if its main frame has a `scroll_to` of it
 abbrev pub clobbers : ScriptModel → Option ℕ → ℕ → Bool
-clobbers s None sc = false
-clobbers s (Some k) sc = list_any (scrolls_to sc) (commands_of s k)
+clobbers s frame sc = unwrap_or (option_map (λ k. list_any (scrolls_to sc) (commands_of s k)) frame) false
 
 -- where a scroller stands in the pending commit: at the pending base if that commit clobbers it, else where it would stand if that commit were active, clamped to its range there
 abbrev pub pending_offset : ScriptModel → List Entry → ℕ → Axis → ℤ

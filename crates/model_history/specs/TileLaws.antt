@@ -1,9 +1,10 @@
 -- Words for the laws on tiles.
-use Rattle.std.specs.Prelude.{◌≡◌, Bool, true, false, List, [], ◌∷◌}
+use Rattle.std.specs.Prelude.{◌≡◌, Bool, true, false, List, [], ◌∷◌, is_some}
 use Rattle.geom.specs.declared.tile.TileKey.{TileKey}
 use Rattle.model_history.specs.declared.event.Event.{Event}
 use Rattle.model_history.specs.declared.event.Event.TheVariants as event
 use Rattle.model_history.specs.declared.history.Entry.{Entry}
+use Rattle.model_history.specs.EventFields.{activates}
 use Rattle.geom.specs.KeyLists.{has_key}
 
 -- every key of the first list is one of the second
@@ -16,8 +17,7 @@ AreApart ks ls = (q : TileKey) → has_key ks q ≡ true → has_key ls q ≡ fa
 
 -- it activates a commit
 abbrev pub is_activate : Event → Bool
-is_activate (event.Activate k clamps) = true
-is_activate _ = false
+is_activate e = is_some (activates e)
 
 -- the missing keys that a draw lists
 abbrev pub lacking : Event → List TileKey

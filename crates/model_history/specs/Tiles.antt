@@ -1,5 +1,5 @@
 -- The tiles of the active and of the pending tree: which of them are ready, which are made at this time, which must stay.
-use Rattle.std.specs.Prelude.{ℕ, ◌+◌, Bool, not, List, [], ◌∷◌, ◌++◌, length, map, filter, flat_map, Option, Some, None}
+use Rattle.std.specs.Prelude.{ℕ, ◌+◌, Bool, not, List, [], ◌∷◌, ◌++◌, length, map, filter, flat_map, cond, is_some}
 use Rattle.std.specs.List.{list_all}
 use Rattle.geom.specs.declared.rect.Point.{Point}
 use Rattle.geom.specs.declared.tile.Place.{Place}
@@ -70,15 +70,10 @@ tiles_used s h = length (ready s h) + length (in_flight h)
 abbrev pub required : ScriptModel → List Entry → List TileKey
 required s h = visible_in (pending_tree s h)
 
--- what an activation of this past needed
-abbrev pub pinned_by : Option ℕ → List TileKey → List TileKey → List TileKey
-pinned_by None now before = before
-pinned_by (Some k) now before = now
-
 -- what the last activation needed; nothing before the first
 abbrev pub pinned : ScriptModel → List Entry → List TileKey
 pinned s [] = []
-pinned s (e ∷ h) = pinned_by (activates e.event) (required s h) (pinned s h)
+pinned s (e ∷ h) = cond (is_some (activates e.event)) (required s h) (pinned s h)
 
 -- all these keys are ready
 abbrev pub are_ready : ScriptModel → List Entry → List TileKey → Bool

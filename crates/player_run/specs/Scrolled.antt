@@ -1,5 +1,5 @@
 -- How far an entry moves a scroller.
-use Rattle.std.specs.Prelude.{◌≡◌, ℕ, suc, nat_le, ◌&&◌, ℤ, pos, ◌+ℤ◌, Bool, List, ◌∷◌, Option, Some, None}
+use Rattle.std.specs.Prelude.{◌≡◌, ℕ, nat_le, ◌&&◌, ℤ, ◌+ℤ◌, Bool, List, ◌∷◌}
 use Rattle.page_layers.specs.Axes.{Axis, amount_in}
 use Rattle.model_history.specs.declared.event.Event.{Event}
 use Rattle.model_history.specs.declared.history.Entry.{Entry}
@@ -13,14 +13,9 @@ use Rattle.model_history.specs.Scrolls.{main_moves, offset}
 abbrev pub is_committed_later : List Entry → ℕ → Bool
 is_committed_later h k = was_named commits h k && nat_le (up_to (active h)) k
 
--- the main moves that become active with a frame: those of the committed frames after the active one, up to this frame
-abbrev pub moves_up_to : ScriptModel → List Entry → Option ℕ → ℕ → Axis → ℤ
-moves_up_to s h None sc ax = pos 0
-moves_up_to s h (Some k) sc ax = main_moves s (pulls_of h) (is_committed_later h) sc ax (suc k)
-
--- the main moves that an event makes active: an activation those up to its frame, every other event none
+-- the main moves that an event makes active: an activation those of the committed frames after the active one, up to its frame; every other event none
 abbrev pub moves_activated : ScriptModel → List Entry → Event → ℕ → Axis → ℤ
-moves_activated s h e sc ax = moves_up_to s h (activates e) sc ax
+moves_activated s h e sc ax = main_moves s (pulls_of h) (is_committed_later h) sc ax (up_to (activates e))
 
 -- an entry moves each scroller by the move of it that the entry accepts, and by the main moves that it makes active; by nothing else
 abbrev pub MovesOnce : ScriptModel → List Entry → Entry → Type 0

@@ -1,5 +1,5 @@
 -- Which tile is made next, and which ready tiles are evicted for it.
-use Rattle.std.specs.Prelude.{◌≡◌, ◌⊎◌, ◌<◌, ℕ, ◌+◌, ◌-◌, nat_lt, nat_le, Bool, true, false, ◌&&◌, ◌||◌, not, Option, Some, None, List, [], ◌∷◌, ◌++◌, length, take, map, filter}
+use Rattle.std.specs.Prelude.{◌≡◌, ◌⊎◌, ◌<◌, ℕ, ◌+◌, ◌-◌, nat_lt, nat_le, Bool, true, false, ◌&&◌, ◌||◌, not, Option, Some, None, option_map, unwrap_or, List, [], ◌∷◌, ◌++◌, length, take, map, filter}
 use Rattle.std.specs.declared.cmp.Ordering.{Ordering}
 use Rattle.std.specs.declared.cmp.Ordering.TheVariants.{Less, Greater}
 use Rattle.geom.specs.KeyOrder.{key_cmp}
@@ -11,15 +11,11 @@ use Rattle.tile_priority.specs.Ranks.{bin_number, rank_cmp, least}
 use Rattle.tile_priority.specs.Tiles.{Tile}
 use Rattle.tile_priority.specs.Ordered.{In, SameMembers, IsInOrder, in_order}
 
--- what the choice is made from: the wanted ranks, the ready tiles, how many are in flight, and the budget
+-- what the choice is made from: the ranks of the keys that have one and are neither ready nor in flight, the ready tiles, how many tiles are in flight, and how many there may be
 pub record Choice : Type 0 where
-  -- the ranks of the keys that have one and are neither ready nor in flight
   pub wanted : List Rank
-  -- the ready tiles
   pub ready : List Tile
-  -- how many tiles are in flight
   pub in_flight : ℕ
-  -- how many tiles there may be
   pub budget : ℕ
 
 -- how many tiles there are, ready or in flight
@@ -36,18 +32,16 @@ abbrev pub evictable_key : Evictable → TileKey
 evictable_key (unranked k) = k
 evictable_key (ranked r) = r.key
 
-abbrev pub evictable_by : TileKey → Option Rank → Evictable
-evictable_by k None = unranked k
-evictable_by k (Some r) = ranked r
-
--- the ready tile as an evictable one
+-- the ready tile as an evictable one; and from its parts, as proofs speak of it
 abbrev pub evictable_of : Tile → Evictable
-evictable_of t = evictable_by t.key t.rank
+evictable_of t = unwrap_or (option_map ranked t.rank) (unranked t.key)
+
+abbrev pub evictable_by : TileKey → Option Rank → Evictable
+evictable_by key rank = unwrap_or (option_map ranked rank) (unranked key)
 
 -- no rank, or a rank of a worse bin
 abbrev pub is_worse : Option Rank → Bin → Bool
-is_worse None b = true
-is_worse (Some r) b = nat_lt (bin_number b) (bin_number r.bin)
+is_worse rank b = unwrap_or (option_map (λ r. nat_lt (bin_number b) (bin_number r.bin)) rank) true
 
 -- the ready tile may be evicted for a tile of this bin: it is not pinned, and its bin is worse, or it has none
 abbrev pub gives_way : Bin → Tile → Bool

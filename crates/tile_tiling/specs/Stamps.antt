@@ -1,5 +1,5 @@
 -- The stamp of a place over a list of commits.
-use Rattle.std.specs.Prelude.{◌≡◌, ℕ, Bool, true, false, ◌||◌, if◌then◌else◌, Option, Some, None, List, [], ◌∷◌}
+use Rattle.std.specs.Prelude.{◌≡◌, ℕ, Bool, true, false, ◌||◌, if◌then◌else◌, Option, Some, None, option_map, unwrap_or, List, [], ◌∷◌}
 use Rattle.geom.specs.declared.rect.Rect.{Rect}
 use Rattle.geom.specs.declared.tile.Place.{Place}
 use Rattle.geom.specs.Sides.{Sides}
@@ -15,8 +15,7 @@ pub record Commit : Type 0 where
 
 -- the change of a layer that may be missing shows in a rect of the layer
 abbrev pub may_show_in : Option LayerChange → Rect → Bool
-may_show_in None r = false
-may_show_in (Some c) r = shows_in c r
+may_show_in change r = unwrap_or (option_map (λ c. shows_in c r) change) false
 
 -- the commit may have changed what a rect of the layer shows: it gave the tree another tile size, or its
 -- change of the layer shows in the rect

@@ -1,5 +1,5 @@
 -- Which tiles of a page are seen at given offsets of its scrollers, and their keys.
-use Rattle.std.specs.Prelude.{ℕ, pos, cond, nat_lt, List, [], ◌∷◌, map, filter, flat_map, Option, Some, None}
+use Rattle.std.specs.Prelude.{ℕ, pos, cond, nat_lt, List, [], ◌∷◌, map, filter, flat_map, Option, option_map, unwrap_or}
 use Rattle.geom.specs.declared.rect.Point.{Point}
 use Rattle.geom.specs.declared.rect.Rect.{Rect}
 use Rattle.geom.specs.declared.tile.Place.{Place}
@@ -28,8 +28,7 @@ screen_rect p offset l place = shifted (rect_of_place (grid_of p l) place) (tran
 
 -- a clip cut by a viewport; the root clip restricts nothing
 abbrev pub cut_by : Rect → Option Rect → Rect
-cut_by view None = view
-cut_by view (Some clip) = common clip view
+cut_by view clip = unwrap_or (option_map (λ c. common c view) clip) view
 
 -- how a tile of a layer is seen: its rect on the screen, the layer's clip cut by the viewport, and whether the layer draws
 abbrev pub seen : Page → (ℕ → Point) → PageLayer → Place → Seen
