@@ -1,6 +1,5 @@
 -- How much a use reads of its source.
-use Rattle.std.specs.Prelude.{◌≡◌, ℕ, ◌≤◌, ◌+◌, Bool, true, List, length, ⊤}
-use Rattle.byte_io.specs.Logs.{Gave}
+use Rattle.std.specs.Prelude.{◌≡◌, ℕ, ◌≤◌, ◌+◌, ◌++◌, Bool, true, List, length, ⊤}
 use Rattle.player_uses.specs.declared.outcome.Outcome.{Outcome}
 use Rattle.player_uses.specs.declared.outcome.Outcome.TheVariants.{Usage, ReadFault, TooLong, Memory}
 use Rattle.player_uses.specs.declared.words.Use.{Use}
@@ -9,7 +8,7 @@ use Rattle.player_uses.specs.Refusals.{script_limit, recording_limit}
 
 -- from one log of a source to a later one it gave at most this number of bytes
 abbrev pub GivenAtMost : ℕ → List ℕ → List ℕ → Type 0
-GivenAtMost most old new = (bytes : List ℕ) × Gave old new bytes × (length bytes ≤ most)
+GivenAtMost most old new = (bytes : List ℕ) × (new ≡ old ++ bytes) × (length bytes ≤ most)
 
 -- how much a use reads: one byte beyond the limit at most; or nothing
 abbrev pub Reads : Use → List ℕ → List ℕ → Type 0

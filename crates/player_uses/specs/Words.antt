@@ -23,12 +23,11 @@ abbrev pub no_more_words : Use → ℕ → List (List ℕ) → Result Use ℕ
 no_more_words wanted index [] = Ok wanted
 no_more_words wanted index (w ∷ ws) = Err index
 
--- the use of a number, which is word 1, if there is one
+-- the use of a number, which is word 1, if there is one: after `step`, `play`, `film`, `shot` and `serve` it is that of raster workers, after `gen` and `demo` that of which the script is made
 abbrev pub numbered : Option ℕ → (ℕ → Use) → List (List ℕ) → Result Use ℕ
 numbered None wanted ws = Err 1
 numbered (Some n) wanted ws = no_more_words (wanted n) 2 ws
 
--- after `step`, `play`, `film`, `shot` and `serve` stands a number of raster workers, after `gen` and `demo` that of which the script is made
 abbrev pub with_number : (List ℕ → Option ℕ) → (ℕ → Use) → List (List ℕ) → Result Use ℕ
 with_number said_by wanted [] = Err 1
 with_number said_by wanted (w ∷ ws) = numbered (said_by w) wanted ws

@@ -1,5 +1,5 @@
 -- The fields of an object: each is of its form, or is the field at fault.
-use Rattle.std.specs.Prelude.{ℕ, ℤ, pos, negsuc, List, nat_le, is_some, Result, Ok, Err, Option, Some, None, option_and_then, ⊤, if◌then◌else◌}
+use Rattle.std.specs.Prelude.{ℕ, ℤ, pos, negsuc, List, nat_le, is_some, Result, Ok, Err, Option, option_map, option_and_then, unwrap_or, ⊤, if◌then◌else◌}
 use Rattle.geom.specs.declared.rect.Rect.{Rect}
 use Rattle.pixel.specs.Colours.{Parts}
 use Rattle.serde_json.specs.Data.{Data, Items, Members}
@@ -14,39 +14,31 @@ use Rattle.script_fields.specs.Forms.{number_form, int_form, opaque_form, colour
 abbrev pub field_at : {A : Type 0} → (Data → Option A) → List ℕ → ℕ → Data → Result A FieldFault
 field_at form key field d = or_fault field (option_and_then form (get key d))
 
--- a whole number from `low` to `high`
+-- members of each form: a whole number, from `low` to `high` or of 32 bits; one that may be below 0, likewise; an opaque colour of six digits and a premultiplied one of eight; a rect; a width and a height from 1 to `most`; a list of at most `most` elements
 unfoldable pub number_at : List ℕ → ℕ → ℕ → ℕ → Data → Result ℕ FieldFault
 number_at key low high field d = field_at (number_form low high) key field d
 
--- a whole number of 32 bits
 unfoldable pub whole_at : List ℕ → ℕ → Data → Result ℕ FieldFault
 whole_at key field d = number_at key 0 4294967295 field d
 
--- a whole number from `low` to `high`, which may be below 0
 unfoldable pub int_at : List ℕ → ℤ → ℤ → ℕ → Data → Result ℤ FieldFault
 int_at key low high field d = field_at (int_form low high) key field d
 
--- a whole number of 32 bits with a sign
 unfoldable pub signed_at : List ℕ → ℕ → Data → Result ℤ FieldFault
 signed_at key field d = int_at key (negsuc 2147483647) (pos 2147483647) field d
 
--- an opaque colour of six digits
 unfoldable pub opaque_at : List ℕ → ℕ → Data → Result Parts FieldFault
 opaque_at key field d = field_at opaque_form key field d
 
--- a premultiplied colour of eight digits
 unfoldable pub colour_at : List ℕ → ℕ → Data → Result Parts FieldFault
 colour_at key field d = field_at colour_form key field d
 
--- a rect of four whole numbers of 32 bits with a sign
 unfoldable pub rect_at : List ℕ → ℕ → Data → Result Rect FieldFault
 rect_at key field d = field_at rect_form key field d
 
--- a width and a height from 1 to `most`
 unfoldable pub sides_at : List ℕ → ℕ → ℕ → Data → Result Sides FieldFault
 sides_at key most field d = field_at (sides_form most) key field d
 
--- a list of at most `most` elements
 unfoldable pub list_at : List ℕ → ℕ → ℕ → Data → Result Items FieldFault
 list_at key most field d = field_at (list_form most) key field d
 
@@ -56,8 +48,7 @@ object_at d = if is_some (as_object d) then Ok tt else Err (fault 0)
 
 -- how many members an object has; none for any other value
 abbrev pub member_count : Option Members → ℕ
-member_count None = 0
-member_count (Some ms) = members_len ms
+member_count members = unwrap_or (option_map members_len members) 0
 
 -- after the given number of fields were found, a further member is a fault of field 99: an object has each name once, so it has no
 -- other members exactly if it has no more than were found

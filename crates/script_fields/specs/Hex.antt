@@ -21,14 +21,13 @@ bytes_of (x ∷ y ∷ rest) = option_and_then (λ b. option_map (λ bs. b ∷ bs
 abbrev pub if_colour : Parts → Option Parts
 if_colour c = if is_colour c then Some c else None
 
--- the colour of eight digits: red, green, blue, alpha
+-- the colour of eight digits: red, green, blue, alpha; the opaque colour of six: red, green, blue
 unfoldable pub colour_of_eight : List ℕ → Option Parts
 colour_of_eight (a ∷ b ∷ c ∷ d ∷ e ∷ f ∷ g ∷ h ∷ []) =
     option_and_then (λ red. option_and_then (λ green. option_and_then (λ blue. option_and_then (λ alpha.
     if_colour (record { r = red; g = green; b = blue; a = alpha })) (byte_of g h)) (byte_of e f)) (byte_of c d)) (byte_of a b)
 colour_of_eight _ = None
 
--- the opaque colour of six digits: red, green, blue
 unfoldable pub colour_of_six : List ℕ → Option Parts
 colour_of_six (a ∷ b ∷ c ∷ d ∷ e ∷ f ∷ []) =
     option_and_then (λ red. option_and_then (λ green. option_and_then (λ blue.

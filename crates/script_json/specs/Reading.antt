@@ -19,14 +19,13 @@ use Rattle.script_json.specs.Faults.{placed}
 use Rattle.script_json.specs.CommandReading.{frames_at}
 use Rattle.script_json.specs.InputReading.{inputs_at}
 
--- the priority of this name
+-- the priority of this name, and the one that a member names
 unfoldable pub priority_named : List ℕ → Option TreePriority
 priority_named s =
     if bytes_eq s (codes "same") then Some Same else
     (if bytes_eq s (codes "smooth") then Some Smooth else
     (if bytes_eq s (codes "new") then Some New else None))
 
--- the name of a priority
 unfoldable pub priority_at : ℕ → Data → Result TreePriority FieldFault
 priority_at field d = or_fault field (option_and_then priority_named (option_and_then as_str (get (codes "priority") d)))
 
