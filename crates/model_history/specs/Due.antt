@@ -48,20 +48,18 @@ due_wheel s h i (Some (input.Wheel x y dx dy)) =
     (wheel_parts (active_page s h) (active_offsets s h) (pos x) (pos y) dx dy))
 due_wheel s h i _ = None
 
--- a commit of a frame up to f is pending
+-- an await is over if its frame has ended and no commit up to it is pending
 abbrev pub is_pending_to : ℕ → Option ℕ → Bool
 is_pending_to f o = unwrap_or (option_map (λ k. nat_le k f) o) false
 
--- an await is over if its frame has ended and no commit up to it is pending
 abbrev pub due_await : List Entry → ℕ → Option Input → Option Event
 due_await h i (Some (input.Await f)) = on_if (has_frame_ended h f && not (is_pending_to f (pending h))) (event.Await i)
 due_await h i _ = None
 
--- whether no tile is left to make: nothing is in flight, and none may start
+-- a settle is over if no tile is left to make: nothing is in flight, and none may start
 abbrev pub is_settled : ScriptModel → List Entry → Bool
 is_settled s h = is_empty (in_flight h) && not (is_some (rank_to_start s h))
 
--- a settle is over if no tile is left to make
 abbrev pub due_settle : ScriptModel → List Entry → ℕ → Option Input → Option Event
 due_settle s h i (Some input.Settle) = on_if (is_settled s h) (event.Settle i)
 due_settle s h i _ = None
@@ -70,7 +68,7 @@ due_settle s h i _ = None
 abbrev pub is_over : ScriptModel → List Entry → Bool
 is_over s h = (next_input h == length s.inputs) && not (is_left s h) && is_empty (in_flight h)
 
--- the event of a kind and an actor that is due, by the table of the kinds: its fields, if its further condition holds
+-- the event of a kind and an actor that is due, by the table of the kinds: its fields, if its further condition holds; actor 2 + w is worker w
 abbrev pub due : ScriptModel → List Entry → Kind → ℕ → Option Event
 due s h kind.BeginDraw a = on_if (asks_draw (input_now s h)) (event.Begin (next_input h))
 due s h kind.BeginPlain a = on_if (not (asks_draw (input_now s h)) && is_left s h) event.BeginPlain

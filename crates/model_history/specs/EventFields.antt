@@ -65,16 +65,14 @@ answers (event.Ready k) = Some k
 answers (event.Abort k) = Some k
 answers _ = None
 
--- what a send tells the main side
+-- what a send tells the main side; the frame whose moves an event brings into the base; the draw for which it begins an impl frame
 abbrev pub pulls : Event → List Move
 pulls (event.Send k ms) = ms
 pulls _ = []
 
--- the frame whose moves it brings into the base
 abbrev pub retires : Event → Option ℕ
 retires e = option_or (aborts e) (activates e)
 
--- the draw for which it begins an impl frame
 abbrev pub begins : Event → Option ℕ
 begins (event.Begin i) = Some i
 begins _ = None

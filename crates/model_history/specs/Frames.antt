@@ -38,11 +38,10 @@ page s ps (suc k) = commanded (commands_of s k) (page_after_pulls (ps k) (page s
 abbrev pub page_before : ScriptModel → (ℕ → List Move) → ℕ → Page
 page_before s ps k = page_after_pulls (ps k) (page s ps k)
 
--- the main move of frame k: what it adds to the main value of a scroller beyond its pull
+-- the main move of frame k: what it adds to the main value of a scroller beyond its pull; and whether that is not (0, 0)
 abbrev pub main_move : ScriptModel → (ℕ → List Move) → ℕ → ℕ → Axis → ℤ
 main_move s ps k sc ax = (main_value (page s ps (suc k)) sc ax -ℤ main_value (page s ps k) sc ax) -ℤ amount_in sc ax (ps k)
 
--- the main move of frame k is not (0, 0)
 abbrev pub moves_main : ScriptModel → (ℕ → List Move) → ℕ → ℕ → Bool
 moves_main s ps k sc = not (int_eq (main_move s ps k sc across) (pos 0) && int_eq (main_move s ps k sc down) (pos 0))
 
@@ -64,11 +63,10 @@ pulls_of (e ∷ h) k = cond (names (sends e.event) k) (pulls e.event) (pulls_of 
 abbrev pub pulls_in : List (List Move) → ℕ → List Move
 pulls_in lists k = slice_index_or lists k []
 
--- a main frame is left: fewer were sent than the script has
+-- a main frame is left: fewer were sent than the script has; a frame has ended: it was committed or aborted
 abbrev pub is_left : ScriptModel → List Entry → Bool
 is_left s h = nat_lt (counted sends h) (length s.main)
 
--- a frame has ended: it was committed or aborted
 abbrev pub has_frame_ended : List Entry → ℕ → Bool
 has_frame_ended h k = was_named commits h k || was_named aborts h k
 

@@ -15,11 +15,10 @@ abbrev pub sched : List Entry → Sched
 sched [] = start_state
 sched (e ∷ h) = sched_after (sched h) (kind_of e.event)
 
--- an event of this kind may come: nothing has ended the run, and the scheduler's state allows it
+-- an event of this kind may come: nothing has ended the run, and the scheduler's state allows it; the event of a kind and an actor that may, if there is one
 abbrev pub is_open : List Entry → Kind → Bool
 is_open h k = not (has_ended h) && may (sched h) k
 
--- the event of a kind and an actor that may come, if there is one
 abbrev pub can : ScriptModel → List Entry → Kind → ℕ → Option Event
 can s h k a = cond (is_open h k) (due s h k a) None
 
@@ -31,11 +30,10 @@ pub record Next (s : ScriptModel) (workers : ℕ) (h : List Entry) (e : Entry) :
   pub actor : e.actor ≡ actor_of e.event
   pub within : e.actor < 2 + workers
 
--- each entry might come after those before it
+-- each entry might come after those before it; and the same for a history, whose oldest entry stands first
 abbrev pub Legal : ScriptModel → ℕ → List Entry → Type 0
 Legal s workers [] = Unit {0}
 Legal s workers (e ∷ h) = Legal s workers h × Next s workers h e
 
--- the same for a history, whose oldest entry stands first
 abbrev pub IsLegal : ScriptModel → ℕ → List Entry → Type 0
 IsLegal s workers history = Legal s workers (reverse history)

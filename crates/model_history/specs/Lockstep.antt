@@ -99,10 +99,9 @@ abbrev pub InputSteps : ScriptModel → List Input → Step
 InputSteps s [] = Stays
 InputSteps s (i ∷ is) = Then (InputStep s i) (InputSteps s is)
 
--- the whole run: the inputs, then rounds until no main frame is left and no commit is pending, then the end
+-- the whole run: the inputs, then rounds until no main frame is left and no commit is pending, then the end; and its history, which is the lockstep history of the script
 abbrev pub WholeRun : ScriptModel → Step
 WholeRun s = Then (InputSteps s s.inputs) (Then (While (λ h. is_left s h || waits h) (Round s)) (Enters s kind.End 0))
 
--- the history is the lockstep history of the script
 abbrev pub IsLockstep : ScriptModel → List Entry → Type 0
 IsLockstep s history = WholeRun s [] (reverse history)

@@ -38,11 +38,10 @@ rank_in s side t q = cond (has_key (keys_of t) q) (rank_on s side t q (find (has
 abbrev pub rank : ScriptModel → List Entry → TileKey → Option Rank
 rank s h q = least (rank_in s side.Active (active_tree s h) q) (rank_in s side.Pending (pending_tree s h) q)
 
--- the key is neither ready nor in flight
+-- the key is neither ready nor in flight; the ranks of the live keys that are neither
 abbrev pub is_unmade : ScriptModel → List Entry → TileKey → Bool
 is_unmade s h q = not (has_key (ready s h) q) && not (has_key (in_flight h) q)
 
--- the ranks of the live keys that are neither ready nor in flight
 abbrev pub wanted : ScriptModel → List Entry → List Rank
 wanted s h = filter_map (rank s h) (filter (is_unmade s h) (live_keys s h))
 
@@ -54,10 +53,9 @@ ready_tile s h q = record { key = q; rank = rank s h q; pinned = has_key (pinned
 abbrev pub choice : ScriptModel → List Entry → Choice
 choice s h = record { wanted = wanted s h; ready = map (ready_tile s h) (ready s h); in_flight = length (in_flight h); budget = s.budget }
 
--- the rank of the key that starts first, if one may start
+-- the rank of the key that starts first, if one may start; the keys that are evicted for it, the worst first
 abbrev pub rank_to_start : ScriptModel → List Entry → Option Rank
 rank_to_start s h = choosing.first (choice s h)
 
--- the keys that are evicted for it, the worst first
 abbrev pub evicted_for : ScriptModel → List Entry → Rank → List TileKey
 evicted_for s h r = map evictable_key (evicted (choice s h) r)

@@ -44,11 +44,10 @@ abbrev pub image_behind : ScriptModel → List Entry → Event → List ℕ
 image_behind s h (event.Draw input missing) = shown_image s h missing
 image_behind s h _ = []
 
--- what an event adds to a recording
+-- what an event adds to a recording; what these entries add after a past, one after another
 unfoldable pub piece : ScriptModel → List Entry → Event → List ℕ
 piece s h e = event_line e ++ image_behind s h e
 
--- what these entries add after a past, one after another
 abbrev pub pieces : ScriptModel → List Entry → List Entry → List ℕ
 pieces s h [] = []
 pieces s h (e ∷ es) = piece s h e.event ++ pieces s (e ∷ h) es

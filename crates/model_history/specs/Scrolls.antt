@@ -116,11 +116,10 @@ scrollers_moved s (e ∷ h) = with_numbers (named_in (moves s e.event)) (scrolle
 abbrev pub next_pulls : ScriptModel → List Entry → List Move
 next_pulls s h = listed (unsent s h) (scrollers_moved s h)
 
--- how far an activation now moves a scroller: from where it would stand if the pending commit were active to its pending offset
+-- how far an activation now moves a scroller: from where it would stand if the pending commit were active to its pending offset; and what it lists: each scroller of the pending page that it moves
 abbrev pub clamp_move : ScriptModel → List Entry → ℕ → Axis → ℤ
 clamp_move s h sc ax = pending_offset s h sc ax -ℤ offset_then s h sc ax
 
--- what an activation now lists: each scroller of the pending page that it moves
 abbrev pub next_clamps : ScriptModel → List Entry → List Move
 next_clamps s h = listed (clamp_move s h) (scrollers (pending_page s h))
 

@@ -35,7 +35,7 @@ key_fields k = field 32 (pos k.layer) ∷ field 47 (pos k.x) ∷ field 47 (pos k
 abbrev pub move_fields : Move → List Field
 move_fields m = field 32 (pos m.scroller) ∷ field 58 m.dx ∷ field 44 m.dy ∷ []
 
--- the text of each event, without its newline: its word and its fields
+-- the text of each event, its word and its fields; and its line, which ends with a newline
 unfoldable pub event_text : Event → List ℕ
 event_text (event.Begin input) = codes "begin" ++ fields_text (spaced input)
 event_text event.BeginPlain = codes "begin -"
@@ -59,6 +59,5 @@ event_text (event.Settle input) = codes "settle" ++ fields_text (spaced input)
 event_text event.End = codes "end"
 event_text (event.Stop actor) = codes "stop" ++ fields_text (spaced actor)
 
--- the line of an event
 unfoldable pub event_line : Event → List ℕ
 event_line e = event_text e ++ 10 ∷ []

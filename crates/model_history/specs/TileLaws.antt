@@ -7,19 +7,17 @@ use Rattle.model_history.specs.declared.history.Entry.{Entry}
 use Rattle.model_history.specs.EventFields.{activates}
 use Rattle.geom.specs.KeyLists.{has_key}
 
--- every key of the first list is one of the second
+-- every key of the first list is one of the second; no key is in both lists
 abbrev pub Within : List TileKey → List TileKey → Type 0
 Within ks ls = (q : TileKey) → has_key ks q ≡ true → has_key ls q ≡ true
 
--- no key is in both lists
 abbrev pub AreApart : List TileKey → List TileKey → Type 0
 AreApart ks ls = (q : TileKey) → has_key ks q ≡ true → has_key ls q ≡ false
 
--- it activates a commit
+-- it activates a commit; the missing keys that a draw lists
 abbrev pub is_activate : Event → Bool
 is_activate e = is_some (activates e)
 
--- the missing keys that a draw lists
 abbrev pub lacking : Event → List TileKey
 lacking (event.Draw i missing) = missing
 lacking _ = []

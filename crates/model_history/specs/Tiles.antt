@@ -48,17 +48,15 @@ without_keys ks (q ∷ qs) = filter (λ k. not (has_key (q ∷ qs) k)) ks
 abbrev pub live_keys : ScriptModel → List Entry → List TileKey
 live_keys s h = keys_of (active_tree s h) ++ keys_of (pending_tree s h)
 
--- the keys that were made and not evicted since
+-- the keys that were made and not evicted since; those that were started and are not made yet; those that are ready: live, made and not evicted
 abbrev pub made_so_far : List Entry → List TileKey
 made_so_far [] = []
 made_so_far (e ∷ h) = finishes e.event ++ without_keys (made_so_far h) (evicts e.event)
 
--- the keys that were started and are not made yet
 abbrev pub in_flight : List Entry → List TileKey
 in_flight [] = []
 in_flight (e ∷ h) = starts e.event ++ without_keys (in_flight h) (finishes e.event)
 
--- the ready keys: live, made and not evicted
 abbrev pub ready : ScriptModel → List Entry → List TileKey
 ready s h = filter (has_key (live_keys s h)) (made_so_far h)
 
@@ -66,11 +64,10 @@ ready s h = filter (has_key (live_keys s h)) (made_so_far h)
 abbrev pub tiles_used : ScriptModel → List Entry → ℕ
 tiles_used s h = length (ready s h) + length (in_flight h)
 
--- what an activation needs: the visible keys of the pending tree
+-- what an activation needs: the visible keys of the pending tree; what the last one needed: nothing before the first
 abbrev pub required : ScriptModel → List Entry → List TileKey
 required s h = visible_in (pending_tree s h)
 
--- what the last activation needed; nothing before the first
 abbrev pub pinned : ScriptModel → List Entry → List TileKey
 pinned s [] = []
 pinned s (e ∷ h) = cond (is_some (activates e.event)) (required s h) (pinned s h)

@@ -119,12 +119,11 @@ Writes wanted bytes old new WriteFault = (whole : List ℕ) × IsBegun wanted by
 Writes wanted bytes old new Memory = (new ≡ old) ⊎ ((whole : List ℕ) × IsBegun wanted bytes whole × GainsPrefix old new whole)
 Writes wanted bytes old new _ = new ≡ old
 
--- if neither count of faults rose, all is done or there was no memory
+-- if neither count of faults rose, all is done or there was no memory; and if the bytes that the source gave are what a use takes
 abbrev pub IsDoneIfCalm : ℕ → ℕ → ℕ → ℕ → Outcome → Type 0
 IsDoneIfCalm source_old source_new out_old out_new result =
     (Rose source_old source_new → ⊥) → (Rose out_old out_new → ⊥) → (result ≡ Done) ⊎ (result ≡ Memory)
 
--- if the bytes that the source gave are what a use takes and neither count of faults rose, the answer is Done or Memory
 abbrev pub IsComplete : Use → List ℕ → ℕ → ℕ → ℕ → ℕ → Outcome → Type 0
 IsComplete (Gen number) bytes source_old source_new out_old out_new result = IsDoneIfCalm source_old source_new out_old out_new result
 IsComplete (Demo number) bytes source_old source_new out_old out_new result = IsDoneIfCalm source_old source_new out_old out_new result

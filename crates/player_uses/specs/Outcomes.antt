@@ -41,7 +41,7 @@ is_write_fault _ = false
 abbrev pub joined_texts : List (List ℕ) → List ℕ
 joined_texts texts = flat_map (λ text. text) texts
 
--- why a command was refused
+-- why a command was refused; the line of a refused script; the line of a value that is no script
 abbrev pub fault_text : EditFault → List (List ℕ)
 fault_text fault.UnknownId = codes "unknown id" ∷ []
 fault_text fault.IdUsed = codes "id used" ∷ []
@@ -50,12 +50,10 @@ fault_text (fault.TooMany limit) = codes "too many, limit " ∷ decimal limit �
 fault_text (fault.OutOfRange value limit) = signed_decimal value ∷ codes " out of range, limit " ∷ signed_decimal limit ∷ []
 fault_text fault.NotNested = codes "not nested" ∷ []
 
--- the line of a refused script
 abbrev pub refused_text : ℕ → ℕ → EditFault → List (List ℕ)
 refused_text frame command why =
     codes "cc: script: frame " ∷ decimal frame ∷ codes " command " ∷ decimal command ∷ codes ": " ∷ (fault_text why ++ codes "\n" ∷ [])
 
--- the line of a value that is no script
 abbrev pub shape_text : ShapeFault → List (List ℕ)
 shape_text f = codes "cc: shape: list " ∷ decimal f.list ∷ codes " index " ∷ decimal f.index ∷ codes " field " ∷ decimal f.field ∷ codes "\n" ∷ []
 

@@ -9,12 +9,11 @@ abbrev pub digits_value : ℕ → List ℕ → ℕ
 digits_value n [] = n
 digits_value n (c ∷ cs) = digits_value (n * 10 + (c - 48)) cs
 
--- the number below 2^64 whose plain decimal the word is; no other word is a number
+-- the number below 2^64 whose plain decimal the word is, no other word is a number; such a number of raster workers: 1 to 16
 unfoldable pub number_in : List ℕ → Option ℕ
 number_in w =
     if nat_lt (digits_value 0 w) (2 ^ 64) && bytes_eq (decimal (digits_value 0 w)) w then Some (digits_value 0 w) else None
 
--- such a number of raster workers: 1 to 16
 abbrev pub workers_in : List ℕ → Option ℕ
 workers_in w = option_and_then (λ n. if nat_le 1 n && nat_le n 16 then Some n else None) (number_in w)
 
@@ -44,8 +43,7 @@ after_other w ws =
     else (if bytes_eq w (codes "check") then no_more_words Check 1 ws
     else (if bytes_eq w (codes "serve") then with_number workers_in Serve ws else Err 0)))))))
 
--- what the words ask for; or the index of the first word that, with those before it, begins no use, and
--- if there is no such word and more words are needed, their count
+-- what the words ask for; or the index of the first word that, with those before it, begins no use, and if there is no such word and more words are needed, their count
 abbrev pub use_of : List (List ℕ) → Result Use ℕ
 use_of [] = Err 0
 use_of (w ∷ ws) = if bytes_eq w (codes "step") then with_number workers_in Step ws else after_other w ws

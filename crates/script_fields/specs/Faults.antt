@@ -10,11 +10,10 @@ abbrev pub ◌>>=◌ : {A B E : Type 0} → Result A E → (A → Result B E) �
 (Ok x) >>= f = f x
 (Err e) >>= f = Err e
 
--- the fault of a field
+-- the fault of a field; the value, or that fault if there is none
 abbrev pub fault : ℕ → FieldFault
 fault field = record { field = field }
 
--- the value, or a fault of the field if there is none
 abbrev pub or_fault : {A : Type 0} → ℕ → Option A → Result A FieldFault
 or_fault field (Some x) = Ok x
 or_fault field None = Err (fault field)

@@ -50,8 +50,7 @@ object_at d = if is_some (as_object d) then Ok tt else Err (fault 0)
 abbrev pub member_count : Option Members → ℕ
 member_count members = unwrap_or (option_map members_len members) 0
 
--- after the given number of fields were found, a further member is a fault of field 99: an object has each name once, so it has no
--- other members exactly if it has no more than were found
+-- after the given number of fields were found, a further member is a fault of field 99: an object has each name once, so it has no other members exactly if it has no more than were found
 unfoldable pub no_more_members : ℕ → Data → Result ⊤ FieldFault
 no_more_members fields d = if nat_le (member_count (as_object d)) fields then Ok tt else Err (fault 99)
 

@@ -3,11 +3,10 @@ use Rattle.std.specs.Prelude.{ℕ, ◌+◌, ◌-◌, ◌*◌, ◌/◌, ◌%◌, 
 use Rattle.std.specs.List.{flat_map}
 use Rattle.pixel.specs.Colours.{Parts, is_colour}
 
--- the value of a digit `0` to `9` or `a` to `f`
+-- the value of a digit `0` to `9` or `a` to `f`, and the byte of two
 unfoldable pub digit_value : ℕ → Option ℕ
 digit_value c = if nat_le 48 c && nat_le c 57 then Some (c - 48) else (if nat_le 97 c && nat_le c 102 then Some (c - 87) else None)
 
--- the byte of two digits
 unfoldable pub byte_of : ℕ → ℕ → Option ℕ
 byte_of high low = option_and_then (λ h. option_map (λ l. 16 * h + l) (digit_value low)) (digit_value high)
 

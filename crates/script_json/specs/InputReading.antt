@@ -14,7 +14,7 @@ use Rattle.script_json.specs.declared.op.InputOp.{InputOp}
 use Rattle.script_json.specs.declared.op.InputOp.TheVariants as op
 use Rattle.script_json.specs.Faults.{placed, before_rest}
 
--- the input of this name
+-- the input of this name; the one that a member `op` names, or a fault of field 0 if there is none
 unfoldable pub input_named : List ℕ → Option InputOp
 input_named s =
     if bytes_eq s (codes "scroll") then Some op.Scroll else
@@ -23,7 +23,6 @@ input_named s =
     (if bytes_eq s (codes "await") then Some op.Await else
     (if bytes_eq s (codes "settle") then Some op.Settle else None))))
 
--- the input that a member `op` names; a fault of field 0 if there is none
 unfoldable pub input_op_at : Data → Result InputOp FieldFault
 input_op_at d = or_fault 0 (option_and_then input_named (option_and_then as_str (get (codes "op") d)))
 
@@ -64,12 +63,11 @@ input_at frames draws d = do
   name ← input_op_at d
   input_fields_at frames draws name d
 
--- how many draws there are after this input
+-- how many draws there are after this input; the inputs from the one at `index` on, after the given number of draws
 abbrev pub draws_after : ℕ → Input → ℕ
 draws_after draws Draw = draws + 1
 draws_after draws _ = draws
 
--- the inputs from the one at `index` on, after the given number of draws
 abbrev pub inputs_at : ℕ → ℕ → ℕ → Items → Result (List Input) ShapeFault
 inputs_at frames draws index no_items = Ok []
 inputs_at frames draws index (item d ds) =

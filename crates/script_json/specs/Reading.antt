@@ -44,12 +44,11 @@ head_at d = do
   priority ← priority_at 9 d
   Ok (record { version = version; viewport = viewport; tile = tile; background = background; budget = budget; raster_per_frame = raster_per_frame; soon = soon; eventually = eventually; priority = priority })
 
--- the main frames and the inputs, as lists of values
+-- the main frames and the inputs, as lists of values: the last two fields of the top object, then further fields
 pub record ScriptLists : Type 0 where
   pub main : Items
   pub inputs : Items
 
--- the last two fields of the top object, then further fields
 unfoldable pub lists_at : Data → Result ScriptLists FieldFault
 lists_at d = do
   main ← list_at (codes "main") max_frames 10 d

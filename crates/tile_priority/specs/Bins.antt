@@ -17,11 +17,10 @@ use Rattle.tile_priority.specs.declared.tile.Seen.{Seen}
 abbrev pub is_visible : Seen → Bool
 is_visible s = s.draws && meets s.screen s.clip
 
--- a tile that is not visible is SOON or EVENTUALLY up to that border's distance, and further away it has no bin
+-- a visible tile is NOW; any other is SOON or EVENTUALLY if it is no further from the viewport than that border, whatever its clip and its opacity; else it has no bin
 abbrev pub bin_at : Borders → ℕ → Option Bin
 bin_at b d = if nat_le d b.soon then Some bin.Soon else (if nat_le d b.eventually then Some bin.Eventually else None)
 
--- a visible tile is NOW; any other is SOON or EVENTUALLY if it is no further from the viewport than that border, whatever its clip and its opacity; else it has no bin
 abbrev pub bin_of : Borders → Seen → Option Bin
 bin_of b s = if is_visible s then Some bin.Now else bin_at b (distance s.screen b.viewport)
 

@@ -39,11 +39,10 @@ evictable_of t = unwrap_or (option_map ranked t.rank) (unranked t.key)
 abbrev pub evictable_by : TileKey → Option Rank → Evictable
 evictable_by key rank = unwrap_or (option_map ranked rank) (unranked key)
 
--- no rank, or a rank of a worse bin
+-- no rank, or a rank of a worse bin; the ready tile may be evicted for a tile of this bin: it is not pinned, and its bin is worse, or it has none
 abbrev pub is_worse : Option Rank → Bin → Bool
 is_worse rank b = unwrap_or (option_map (λ r. nat_lt (bin_number b) (bin_number r.bin)) rank) true
 
--- the ready tile may be evicted for a tile of this bin: it is not pinned, and its bin is worse, or it has none
 abbrev pub gives_way : Bin → Tile → Bool
 gives_way b t = not t.pinned && is_worse t.rank b
 
@@ -94,12 +93,11 @@ pub record IsFirst (c : Choice) (q : Rank) : Type 0 where
 abbrev pub NoneStarts : Choice → Type 0
 NoneStarts c = (p : Rank) → In p c.wanted → may_start c p ≡ false
 
--- the least of the ranks of a list
+-- the least of the ranks of a list; the rank that starts first, if there is one
 abbrev pub least_of : List Rank → Option Rank
 least_of [] = None
 least_of (r ∷ rs) = least (Some r) (least_of rs)
 
--- the rank that starts first, if there is one
 unfoldable pub first : Choice → Option Rank
 first c = least_of (filter (may_start c) c.wanted)
 

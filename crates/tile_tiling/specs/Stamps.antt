@@ -17,17 +17,15 @@ pub record Commit : Type 0 where
 abbrev pub may_show_in : Option LayerChange → Rect → Bool
 may_show_in change r = unwrap_or (option_map (λ c. shows_in c r) change) false
 
--- the commit may have changed what a rect of the layer shows: it gave the tree another tile size, or its
--- change of the layer shows in the rect
+-- the commit may have changed what a rect of the layer shows: it gave the tree another tile size, or its change of the layer shows in the rect
 abbrev pub changes_in : ℕ → Rect → Commit → Bool
 changes_in layer r c = c.changed.retiled || may_show_in (change_of c.changed.list layer) r
 
--- the last commit that passes a test, of a list with the latest first
+-- the last commit that passes a test, of a list with the latest first; the stamp of a place of a layer after these commits: the last one that changed what the place shows
 abbrev pub last_that : (Commit → Bool) → List Commit → Option ℕ
 last_that test [] = None
 last_that test (c ∷ cs) = if test c then Some c.frame else last_that test cs
 
--- the stamp of a place of a layer after these commits: the last one that changed what the place shows
 abbrev pub stamp_of : ℕ → Rect → List Commit → Option ℕ
 stamp_of layer place cs = last_that (changes_in layer place) cs
 

@@ -14,11 +14,10 @@ use Rattle.tile_priority.specs.Bins.{is_visible}
 use Rattle.page_layers.specs.Layers.{PageLayer}
 use Rattle.page_layers.specs.Pages.{Page}
 
--- the viewport of a page
+-- the viewport of a page, and a layer cut into its tiles
 abbrev pub viewport : Page → Rect
 viewport p = record { x = pos 0; y = pos 0; w = pos p.view.w; h = pos p.view.h }
 
--- a layer cut into the tiles of its page
 abbrev pub grid_of : Page → PageLayer → Sides
 grid_of p l = record { w = l.w; h = l.h; tile = p.view.tile }
 
