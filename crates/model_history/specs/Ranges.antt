@@ -40,10 +40,8 @@ is_rect r = is_signed r.x && is_signed r.y && is_signed r.w && is_signed r.h
 -- whether bytes are whole pixels, four bytes each, all premultiplied
 abbrev pub are_pixels : List ℕ → Bool
 are_pixels [] = true
-are_pixels (r ∷ []) = false
-are_pixels (r ∷ g ∷ []) = false
-are_pixels (r ∷ g ∷ b ∷ []) = false
 are_pixels (r ∷ g ∷ b ∷ a ∷ rest) = is_colour (record { r = r; g = g; b = b; a = a }) && are_pixels rest
+are_pixels _ = false
 
 -- whether bytes are the pixels of a rect whose sides are 1 to 256
 unfoldable pub is_picture : Rect → List ℕ → Bool
