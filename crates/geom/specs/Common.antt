@@ -19,11 +19,10 @@ pub record IsCommon (at len : ℤ) (s : Span) : Type 0 where
   pub some : pos 0 <ℤ s.len
   pub sound : IsSpan s.at s.len
 
--- the rect that covers nothing
+-- the rect that covers nothing, and the rect of two spans, which is that one if a span is missing
 abbrev pub empty_rect : Rect
 empty_rect = record { x = pos 0; y = pos 0; w = pos 0; h = pos 0 }
 
--- the rect of two spans, and `empty_rect` if one is missing
 abbrev pub rect_of_spans : Option Span → Option Span → Rect
 rect_of_spans (Some s) (Some t) = record { x = s.at; y = t.at; w = s.len; h = t.len }
 rect_of_spans (Some s) None = empty_rect

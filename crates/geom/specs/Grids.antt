@@ -9,7 +9,7 @@ use Rattle.geom.specs.Covers.{covers}
 use Rattle.geom.specs.Common.{meets}
 use Rattle.geom.specs.Sides.{Sides, IsGrid}
 
--- how many tiles a side takes
+-- how many tiles a side takes; where the tile of a number starts, and how long it is: a whole tile, or what the side has left
 unfoldable pub tiles : ℕ → ℕ → ℕ
 tiles side tile = div_ceil side tile
 
@@ -21,7 +21,6 @@ has g p = nat_lt p.x (tiles g.w g.tile) && nat_lt p.y (tiles g.h g.tile)
 abbrev pub bounds : Sides → Rect
 bounds g = record { x = pos 0; y = pos 0; w = pos g.w; h = pos g.h }
 
--- where the tile of this number starts, and how long it is: a whole tile, or what the side has left
 abbrev pub part_at : ℕ → ℕ → ℤ
 part_at tile k = pos (k * tile)
 

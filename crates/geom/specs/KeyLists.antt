@@ -3,11 +3,10 @@ use Rattle.std.specs.Prelude.{◌≡◌, ◌==◌, Bool, false, ◌&&◌, List, 
 use Rattle.std.specs.List.{list_any}
 use Rattle.geom.specs.declared.tile.TileKey.{TileKey}
 
--- whether two keys are one: all four numbers are the same
+-- whether two keys are one: all four numbers are the same; whether a list has this key
 abbrev pub same_key : TileKey → TileKey → Bool
 same_key k q = (k.layer == q.layer) && (k.x == q.x) && (k.y == q.y) && (k.stamp == q.stamp)
 
--- a list has this key
 abbrev pub has_key : List TileKey → TileKey → Bool
 has_key ks q = list_any (λ k. same_key k q) ks
 

@@ -1,19 +1,16 @@
 -- The limits of a page and of a script.
 use Rattle.std.specs.Prelude.{ℕ}
 
--- the greatest id of a layer or a node
+-- the greatest id of a layer or a node; how many nodes a family of a property tree has at most, layers a page, items a display list
 abbrev pub max_id : ℕ
 max_id = 65535
 
--- how many nodes a family of a property tree has at most
 abbrev pub max_nodes : ℕ
 max_nodes = 256
 
--- how many layers a page has at most
 abbrev pub max_layers : ℕ
 max_layers = 64
 
--- how many items a display list has at most
 abbrev pub max_items : ℕ
 max_items = 256
 
@@ -21,11 +18,10 @@ max_items = 256
 abbrev pub max_side : ℕ
 max_side = 16384
 
--- the longest side of a viewport
+-- the longest side of a viewport, and of one in a script of version 1
 abbrev pub max_viewport : ℕ
 max_viewport = 2048
 
--- the longest side of a viewport in a script of version 1
 abbrev pub max_first_viewport : ℕ
 max_first_viewport = 1024
 
@@ -44,11 +40,10 @@ max_offset = 65536
 abbrev pub max_scroll : ℕ
 max_scroll = 1048576
 
--- how many main frames a script has at most
+-- how many main frames a script has at most, how many inputs, and how many of these are draws
 abbrev pub max_frames : ℕ
 max_frames = 4096
 
--- how many inputs a script has at most, and how many of them are draws
 abbrev pub max_inputs : ℕ
 max_inputs = 65536
 

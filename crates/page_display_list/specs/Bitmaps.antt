@@ -14,11 +14,10 @@ abbrev pub near : ℤ → ℕ
 near (pos n) = n
 near (negsuc n) = 0
 
--- the side of a bitmap is 1 to 256 pixels long
+-- a side of a bitmap is 1 to 256 pixels long; both are
 abbrev pub is_side : ℤ → Bool
 is_side n = int_le (pos 1) n && int_le n (pos 256)
 
--- a width and a height are sides of a bitmap: 1 to 256
 unfoldable pub has_sides : ℤ → ℤ → Bool
 has_sides w h = is_side w && is_side h
 

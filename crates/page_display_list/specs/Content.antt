@@ -8,12 +8,11 @@ use Rattle.page_display_list.specs.Bitmaps.{near, bitmap_pixel, byte_count}
 use Rattle.page_display_list.specs.declared.item.Item.{Item}
 use Rattle.page_display_list.specs.declared.item.Item.TheVariants as kind
 
--- the rect of an item
+-- the rect of an item, and its colour at a point that the rect covers
 abbrev pub rect_of_item : Item → Rect
 rect_of_item (kind.Rect rect colour) = rect
 rect_of_item (kind.Bitmap picture) = picture.rect
 
--- the colour of an item at a point that its rect covers
 abbrev pub colour_of : Item → ℤ → ℤ → Parts
 colour_of (kind.Rect rect colour) x y = colour
 colour_of (kind.Bitmap picture) x y = bitmap_pixel picture x y

@@ -9,12 +9,11 @@ pub data Axis : Type 0 where
   across : Axis
   down : Axis
 
--- a point along an axis
+-- a point, and a move, along an axis
 abbrev pub along : Axis → Point → ℤ
 along across p = p.x
 along down p = p.y
 
--- a move along an axis
 abbrev pub amount : Axis → Move → ℤ
 amount across m = m.dx
 amount down m = m.dy
@@ -45,12 +44,11 @@ listed f (sc ∷ scs) = with_move (move_of f sc) (listed f scs)
 abbrev pub named_in : List Move → List ℕ
 named_in moves = map (λ m. m.scroller) moves
 
--- numbers by rising number, each once: one more
+-- numbers by rising number, each once: one more, and several more
 abbrev pub with_number : ℕ → List ℕ → List ℕ
 with_number n [] = n ∷ []
 with_number n (m ∷ ms) = cond (nat_lt m n) (m ∷ with_number n ms) (cond (m == n) (m ∷ ms) (n ∷ m ∷ ms))
 
--- and several more
 abbrev pub with_numbers : List ℕ → List ℕ → List ℕ
 with_numbers [] ms = ms
 with_numbers (n ∷ ns) ms = with_number n (with_numbers ns ms)

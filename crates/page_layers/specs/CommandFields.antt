@@ -69,15 +69,13 @@ layer_ops = op.AddLayer ∷ op.RemoveLayer ∷ op.ResizeLayer ∷ op.SetColour �
 abbrev pub first_named : List Op → List ℕ → Option Op
 first_named ops s = find (λ o. bytes_eq s (op_name o)) ops
 
--- the command of this name on the nodes of a page
+-- the command of this name: on the nodes of a page; on its layers, their items or the view; on any
 unfoldable pub node_op_named : List ℕ → Option Op
 node_op_named s = first_named node_ops s
 
--- the command of this name on the layers of a page, their items or the view
 unfoldable pub layer_op_named : List ℕ → Option Op
 layer_op_named s = first_named layer_ops s
 
--- the command of this name
 unfoldable pub op_named : List ℕ → Option Op
 op_named s = option_or (node_op_named s) (layer_op_named s)
 

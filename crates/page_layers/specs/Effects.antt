@@ -16,15 +16,13 @@ use Rattle.page_layers.specs.Scrolls.{clamped}
 use Rattle.page_layers.specs.Pages.{Page}
 use Rattle.page_layers.specs.declared.moves.Move.{Move}
 
--- a page with other property nodes
+-- a page with other property nodes; with other layers; with the layer of this id changed
 abbrev pub with_props : Page → Props → Page
 with_props p props = record p { props = props }
 
--- a page with other layers
 abbrev pub with_layers : Page → List PageLayer → Page
 with_layers p layers = record p { layers = layers }
 
--- a page in which the layer with this id is changed
 abbrev pub with_layer_changed : Page → ℕ → (PageLayer → PageLayer) → Page
 with_layer_changed p id f = with_layers p (with_first_changed (has_id id) f p.layers)
 
@@ -36,11 +34,10 @@ main_point p id = unwrap_or (entries.find id p.values) origin
 abbrev pub clamped_in : Option ScrollNode → ℤ → ℤ → Point
 clamped_in found x y = unwrap_or (option_map (λ node. clamped node x y) found) origin
 
--- a page in which a scroller's main value is set, clamped to its range
+-- a page in which a scroller's main value is set, clamped to its range; and the same by an amount
 abbrev pub scrolled_to : Page → ℕ → ℤ → ℤ → Page
 scrolled_to p id x y = record p { values = entries.with_node_changed id (λ v. clamped_in (entries.find id p.props.scrollers) x y) p.values }
 
--- the same, by an amount
 abbrev pub scrolled_by : Page → ℕ → ℤ → ℤ → Page
 scrolled_by p id dx dy = scrolled_to p id ((main_point p id).x +ℤ dx) ((main_point p id).y +ℤ dy)
 

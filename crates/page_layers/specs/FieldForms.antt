@@ -12,12 +12,11 @@ pub data Form : Type 0 where
   colour : Form
   item : Form
 
--- a field: its name and its form
+-- a field: its name and its form; what a field of a form holds
 pub record Field : Type 0 where
   pub name : List ℕ
   pub form : Form
 
--- what a field of a form holds
 abbrev pub Held : Form → Type 0
 Held whole = ℕ
 Held signed = ℤ

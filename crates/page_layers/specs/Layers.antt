@@ -24,15 +24,13 @@ parts_of l = record { id = l.id; transform = l.transform; clip = l.clip; effect 
 abbrev pub has_id : ℕ → PageLayer → Bool
 has_id id l = l.id == id
 
--- a layer with another size
+-- a layer with another size; with another background colour; with other items
 abbrev pub with_size : ℕ → ℕ → PageLayer → PageLayer
 with_size w h l = record l { w = w; h = h }
 
--- a layer with another background colour
 abbrev pub with_colour : Parts → PageLayer → PageLayer
 with_colour c l = record l { colour = c }
 
--- a layer with other items
 abbrev pub with_items : (List Item → List Item) → PageLayer → PageLayer
 with_items f l = record l { items = f l.items }
 

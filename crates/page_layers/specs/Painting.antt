@@ -16,13 +16,12 @@ module _ (opacity : ℕ → ℕ) where
   folded (layer c rest) below = folded rest (blend below c)
   folded (group e items rest) below = folded rest (blend below (scaled (folded items clear) (opacity e)))
 
--- the items of the effect's group if that group stands first
+-- the items of the effect's group if that group stands first, and what follows it
 abbrev pub inside : ℕ → Items → Items
 inside e none = none
 inside e (layer c rest) = none
 inside e (group f items rest) = cond (e == f) items none
 
--- what follows the effect's group if that group stands first
 abbrev pub after_group : ℕ → Items → Items
 after_group e none = none
 after_group e (layer c rest) = layer c rest

@@ -48,11 +48,10 @@ check_scroll dx dy = do
   _ ← check_range dx (neg_ℤ (pos max_scroll)) (pos max_scroll)
   check_range dy (neg_ℤ (pos max_scroll)) (pos max_scroll)
 
--- how many items the layer with this id has
+-- how many items the layer with this id has; whether there is one
 abbrev pub item_count : ℕ → List PageLayer → Result ℕ EditFault
 item_count id layers = ok_or (option_map (λ l. length l.items) (find (has_id id) layers)) fault.UnknownId
 
--- whether a layer has this id
 abbrev pub has_layer : ℕ → List PageLayer → Bool
 has_layer id layers = is_some (find (has_id id) layers)
 

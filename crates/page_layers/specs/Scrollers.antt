@@ -9,21 +9,19 @@ use Rattle.page_layers.specs.Effects.{main_point}
 use Rattle.page_layers.specs.Pages.{Page}
 use Rattle.page_layers.specs.Axes.{Axis, across, down, along}
 
--- the scrollers of a page by rising id
+-- the scrollers of a page by rising id; whether it has this one
 abbrev pub scrollers : Page → List ℕ
 scrollers p = rising (ids p.props.scrollers)
 
--- the page has this scroller
 abbrev pub has_scroller : Page → ℕ → Bool
 has_scroller p sc = knows sc p.props.scrollers
 
--- the end of a range along an axis; 0 if there is none
+-- the end of a scroller's range along an axis; 0 if the page lacks it
 abbrev pub end_of : Option ScrollNode → Axis → ℕ
 end_of None ax = 0
 end_of (Some n) across = n.max_x
 end_of (Some n) down = n.max_y
 
--- the end of a scroller's range along an axis; 0 if the page lacks it
 abbrev pub most : Page → ℕ → Axis → ℕ
 most p sc ax = end_of (find sc p.props.scrollers) ax
 

@@ -6,11 +6,10 @@ use Rattle.geom.specs.declared.rect.Point.{Point}
 use Rattle.page_properties.specs.declared.nodes.ScrollNode.{ScrollNode}
 use Rattle.page_properties.specs.OffsetMap.{origin}
 
--- a number clamped to a scroll range from 0 to its end
+-- a number clamped to a scroll range from 0 to its end, and a point to a scroller's range
 unfoldable pub clamp_to : ℕ → ℤ → ℤ
 clamp_to most z = int_max (pos 0) (int_min z (pos most))
 
--- a point clamped to a scroller's range
 abbrev pub clamped : ScrollNode → ℤ → ℤ → Point
 clamped node x y = record { x = clamp_to node.max_x x; y = clamp_to node.max_y y }
 

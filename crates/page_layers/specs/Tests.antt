@@ -19,11 +19,10 @@ require false fault = Err fault
 unfoldable pub check_range : ℤ → ℤ → ℤ → Result ⊤ EditFault
 check_range value low high = cond (int_lt value low) (Err (fault.OutOfRange value low)) (cond (int_lt high value) (Err (fault.OutOfRange value high)) (Ok tt))
 
--- a new id: 1 to 65535
+-- a new id: 1 to 65535; a layer's size: both sides 1 to 16384
 unfoldable pub is_id : ℕ → Result ⊤ EditFault
 is_id id = check_range (pos id) (pos 1) (pos max_id)
 
--- a layer's size: both sides 1 to 16384
 unfoldable pub is_size : ℕ → ℕ → Result ⊤ EditFault
 is_size w h = do
   _ ← check_range (pos w) (pos 1) (pos max_side)

@@ -27,10 +27,9 @@ chain_at p layer = unwrap_or (option_map (chain p) (find (has_id layer) p.layers
 abbrev pub takes_at : Page → (ℕ → Point) → ℕ → Axis → ℤ → ℤ
 takes_at p offset = amount_taken p (λ sc ax. along ax (offset sc))
 
--- what the scrollers under a point take of a wheel, in the order of the chain, without those that take (0, 0)
+-- what the scrollers under a point take of a wheel, in the order of the chain, without those that take (0, 0); and what they leave of it along an axis
 abbrev pub wheel_parts : Page → (ℕ → Point) → ℤ → ℤ → ℤ → ℤ → List Move
 wheel_parts p offset x y dx dy = chain_parts (takes_at p offset) (chain_at p (target p offset x y)) dx dy
 
--- what they leave of it along an axis
 abbrev pub wheel_rest : Page → (ℕ → Point) → ℤ → ℤ → Axis → ℤ → ℤ
 wheel_rest p offset x y ax asked = chain_rest (takes_at p offset) ax (chain_at p (target p offset x y)) asked

@@ -14,7 +14,7 @@ abbrev pub rising : List ℕ → List ℕ
 rising [] = []
 rising (id ∷ older) = put_id id (rising older)
 
--- the node of an id in a family, if it has one; and whether it has one
+-- the node of an id in a family, if it has one; whether it has one; the same of 0 too, the root, which is in no list
 abbrev pub find : {N : Type 0} → ℕ → List (ℕ × N) → Option N
 find id [] = None
 find id (e ∷ older) = cond (e.0 == id) (Some e.1) (find id older)
@@ -22,7 +22,6 @@ find id (e ∷ older) = cond (e.0 == id) (Some e.1) (find id older)
 abbrev pub knows : {N : Type 0} → ℕ → List (ℕ × N) → Bool
 knows id nodes = is_some (find id nodes)
 
--- 0 is the root, which is in no list
 abbrev pub is_known : {N : Type 0} → ℕ → List (ℕ × N) → Bool
 is_known id nodes = (id == 0) || knows id nodes
 

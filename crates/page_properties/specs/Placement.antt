@@ -42,11 +42,10 @@ both None s = s
 both (Some r) None = Some r
 both (Some r) (Some s) = Some (common r s)
 
--- a clip's rect, shifted by the translation of its own transform
+-- a clip's rect, shifted by the translation of its own transform; the clip of a clip node: its parent's and its own rect where it is placed. The root restricts nothing
 abbrev pub placed_rect : (ℕ → Point) → List (ℕ × TransformNode) → ClipNode → Rect
 placed_rect offset transforms n = shifted n.rect (translation offset transforms n.transform)
 
--- the clip of a clip node: its parent's and its own rect where it is placed. The root restricts nothing
 unfoldable pub clip_of : (ℕ → Point) → List (ℕ × TransformNode) → List (ℕ × ClipNode) → ℕ → Option Rect
 clip_of offset transforms nodes id = gathered (λ n. n.parent) None (λ e above. both above (Some (placed_rect offset transforms e.1))) nodes id
 

@@ -25,7 +25,7 @@ blend below source = record {
   a = above below.a source.a source.a;
 }
 
--- a colour faded to an opacity of 0 to 255
+-- a colour faded to an opacity of 0 to 255; the transparent colour
 abbrev pub scaled : Parts → ℕ → Parts
 scaled c opacity = record {
   r = times_255 c.r opacity;
@@ -34,7 +34,6 @@ scaled c opacity = record {
   a = times_255 c.a opacity;
 }
 
--- the transparent colour
 abbrev pub clear : Parts
 clear = record { r = 0; g = 0; b = 0; a = 0 }
 
