@@ -19,7 +19,8 @@ use Rattle.tile_priority.specs.declared.tile.Borders.{Borders}
 use Rattle.tile_priority.specs.declared.tile.Seen.{Seen}
 use Rattle.tile_priority.specs.Bins as bins
 use Rattle.tile_priority.specs.Bins.{bin_at, bin_of, rank_of, tree_number}
-use Rattle.tile_priority.specs.Ranks.{rank_cmp, at_order, least}
+use Rattle.tile_priority.specs.Ranks.{rank_cmp, least}
+use Rattle.std.specs.Ordering.{match_ordering}
 use Rattle.tile_priority.specs.Choice.{is_now, is_visible_rank}
 use Rattle.page_layers.specs.Layers.{PageLayer, has_id}
 use Rattle.page_layers.specs.Pages.{Page}
@@ -167,12 +168,12 @@ shown_least (Some a) None = or_false (is_now a.bin)
     or_false false = refl
 shown_least (Some a) (Some b) = by_bins a.bin refl b.bin refl
   where
-    either : (t : Ordering) → (c : Bool) → is_now a.bin ≡ c → is_now b.bin ≡ c → is_visible_rank (at_order t (Some b) (Some a) (Some a)) ≡ c
+    either : (t : Ordering) → (c : Bool) → is_now a.bin ≡ c → is_now b.bin ≡ c → is_visible_rank (match_ordering t (Some b) (Some a) (Some a)) ≡ c
     either Less c e f = f
     either Equal c e f = e
     either Greater c e f = e
 
-    by_bins : (x : Bin) → a.bin ≡ x → (y : Bin) → b.bin ≡ y → is_visible_rank (at_order (rank_cmp b a) (Some b) (Some a) (Some a)) ≡ (is_now a.bin || is_now b.bin)
+    by_bins : (x : Bin) → a.bin ≡ x → (y : Bin) → b.bin ≡ y → is_visible_rank (match_ordering (rank_cmp b a) (Some b) (Some a) (Some a)) ≡ (is_now a.bin || is_now b.bin)
     by_bins bin.Now e bin.Now f = either (rank_cmp b a) true (ap is_now e) (ap is_now f) ∙ rw e refl
     by_bins bin.Now e bin.Soon f = rw (e, f) refl
     by_bins bin.Now e bin.Eventually f = rw (e, f) refl

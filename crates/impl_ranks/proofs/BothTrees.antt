@@ -28,7 +28,8 @@ use Rattle.tile_priority.specs.declared.tile.Seen.{Seen}
 use Rattle.std.specs.declared.cmp.Ordering.{Ordering}
 use Rattle.std.specs.declared.cmp.Ordering.TheVariants.{Less, Equal, Greater}
 use Rattle.tile_priority.specs.Tiles.{IsRankOfKey}
-use Rattle.tile_priority.specs.Ranks.{least, rank_cmp, at_order}
+use Rattle.tile_priority.specs.Ranks.{least, rank_cmp}
+use Rattle.std.specs.Ordering.{match_ordering}
 use Rattle.tile_priority.specs.Ordered.{In, SameMembers}
 use Rattle.tile_priority.proofs.Members.{in_append, in_append_left, in_append_right, in_filter_map, filter_map_in}
 use Rattle.page_layers.specs.Layers.{PageLayer, has_id}
@@ -355,7 +356,7 @@ module _ (s : ScriptModel) (acc : IsPlayable s) (a p : Tree) (o w : Option SeenT
   better_key r None i = (r, refl, refl)
   better_key r (Some y) i = by_order (rank_cmp y r)
     where
-      by_order : (c : Ordering) → (z : Rank) × (at_order c (Some y) (Some r) (Some r) ≡ Some z) × (z.key ≡ r.key)
+      by_order : (c : Ordering) → (z : Rank) × (match_ordering c (Some y) (Some r) (Some r) ≡ Some z) × (z.key ≡ r.key)
       by_order Less = (y, refl, i)
       by_order Equal = (r, refl, refl)
       by_order Greater = (r, refl, refl)

@@ -19,7 +19,8 @@ use Rattle.std.specs.declared.cmp.Ordering.{Ordering}
 use Rattle.std.specs.declared.cmp.Ordering.TheVariants.{Less, Equal, Greater}
 use Rattle.tile_priority.specs.declared.tile.Seen.{Seen}
 use Rattle.tile_priority.specs.Bins.{bin_of, rank_of, tree_number}
-use Rattle.tile_priority.specs.Ranks.{least, rank_cmp, at_order}
+use Rattle.tile_priority.specs.Ranks.{least, rank_cmp}
+use Rattle.std.specs.Ordering.{match_ordering}
 use Rattle.tile_priority.specs.Ordered.{In}
 use Rattle.impl_ranks.specs.SeenTrees.{SeenLayerModel}
 use Rattle.impl_ranks.specs.inner.Lists.{layer_at, layer_has, tile_seen, layer_rank, rank_on_layer, place_rank, near_ranks, better_on, alone_on}
@@ -54,7 +55,7 @@ module _ {X Y : Type 0} (f : X → Option Y) where
 
 -- ---- one place, where the layers stand alike
 
-either_way : (c : Ordering) (o : Option Rank) → o ≡ at_order c o o o
+either_way : (c : Ordering) (o : Option Rank) → o ≡ match_ordering c o o o
 either_way Less o = refl
 either_way Equal o = refl
 either_way Greater o = refl

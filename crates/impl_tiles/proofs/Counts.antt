@@ -13,7 +13,8 @@ use Rattle.geom.specs.KeyLists.{same_key, has_key, AreDistinctKeys}
 use Rattle.geom.proofs.KeyLists.{one_key}
 use Rattle.tile_priority.specs.declared.rank.Bin.{Bin}
 use Rattle.tile_priority.specs.declared.rank.Rank.{Rank}
-use Rattle.tile_priority.specs.Ranks.{at_order, rank_cmp, least}
+use Rattle.tile_priority.specs.Ranks.{rank_cmp, least}
+use Rattle.std.specs.Ordering.{match_ordering}
 use Rattle.tile_priority.specs.Ordered.{In, SameMembers, with_member, in_order}
 use Rattle.tile_priority.specs.Laws.{IsOrder}
 use Rattle.tile_priority.specs.Tiles.{Tile}
@@ -61,7 +62,7 @@ best_more f rs i d best lt old = by_test (f (get_or rs i d)) ∙ sym (ap least_o
 
 -- a rank that comes before another is the better of the two
 pub beaten : (a b : Rank) (o : Option Rank) (c : Ordering) → o ≡ Some b → c ≡ rank_cmp b a → c ≡ Less → least (Some a) o ≡ o
-beaten a b o c is told e = ap (least (Some a)) is ∙ ap (λ d. at_order d (Some b) (Some a) (Some a)) (sym told ∙ e) ∙ sym is
+beaten a b o c is told e = ap (least (Some a)) is ∙ ap (λ d. match_ordering d (Some b) (Some a) (Some a)) (sym told ∙ e) ∙ sym is
 
 -- there are always as many as none
 pub none_needed : (n m : ℕ) → n ≡ 0 → true ≡ nat_le n m
@@ -190,7 +191,7 @@ module _ {X : Type 0} (R : X → X → Ordering) (order : IsOrder R) where
   new_member x [] none = refl
   new_member x (y ∷ ys) none = by_order (R x y) refl (new_member x ys (λ i. none (inr i)))
     where
-      by_order : (o : Ordering) → R x y ≡ o → length (with_member R x ys) ≡ suc (length ys) → length (at_order o (x ∷ y ∷ ys) (y ∷ ys) (y ∷ with_member R x ys)) ≡ suc (suc (length ys))
+      by_order : (o : Ordering) → R x y ≡ o → length (with_member R x ys) ≡ suc (length ys) → length (match_ordering o (x ∷ y ∷ ys) (y ∷ ys) (y ∷ with_member R x ys)) ≡ suc (suc (length ys))
       by_order Less e f = refl
       by_order Equal e f = absurd (none (inl (order.ties_are_equal x y e)))
       by_order Greater e f = ap suc f

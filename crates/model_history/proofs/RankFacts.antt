@@ -13,7 +13,8 @@ use Rattle.tile_priority.specs.declared.tile.Seen.{Seen}
 use Rattle.geom.specs.Gaps.{distance}
 use Rattle.tile_priority.specs.Ordered.{In}
 use Rattle.tile_priority.specs.Bins.{bin_of, rank_of, tree_number}
-use Rattle.tile_priority.specs.Ranks.{rank_cmp, least, at_order}
+use Rattle.tile_priority.specs.Ranks.{rank_cmp, least}
+use Rattle.std.specs.Ordering.{match_ordering}
 use Rattle.tile_priority.specs.Tiles.{Tile, IsRankOfKey}
 use Rattle.tile_priority.specs.Choice.{evictable_key, evictable_by, evictable_of, evicted, is_worse}
 use Rattle.tile_priority.proofs.InOrder.{in_filter, in_map}
@@ -54,7 +55,7 @@ better_of q None p i j = j
 better_of q (Some a) None i j = i
 better_of q (Some a) (Some b) i j = by_order (rank_cmp b a)
   where
-    by_order : (t : Ordering) → IsRankOfKey q (at_order t (Some b) (Some a) (Some a))
+    by_order : (t : Ordering) → IsRankOfKey q (match_ordering t (Some b) (Some a) (Some a))
     by_order Less = j
     by_order Equal = i
     by_order Greater = i

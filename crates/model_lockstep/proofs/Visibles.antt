@@ -18,7 +18,8 @@ use Rattle.tile_priority.specs.declared.tile.Borders.{Borders}
 use Rattle.tile_priority.specs.declared.tile.Seen.{Seen}
 use Rattle.tile_priority.specs.Ordered.{In}
 use Rattle.tile_priority.specs.Bins.{is_visible, bin_at, tree_number, rank_of}
-use Rattle.tile_priority.specs.Ranks.{rank_cmp, least, at_order}
+use Rattle.tile_priority.specs.Ranks.{rank_cmp, least}
+use Rattle.std.specs.Ordering.{match_ordering}
 use Rattle.tile_priority.proofs.InOrder.{in_filter, filter_in, in_map}
 use Rattle.tile_priority.proofs.Choosing.{visible_start}
 use Rattle.page_layers.specs.Layers.{PageLayer, has_id}
@@ -193,7 +194,7 @@ better_now : (o : Option Rank) (r : Rank) → r.bin ≡ bin.Now → (z : Rank) �
 better_now None r e = (r, refl, e)
 better_now (Some a) r e = by_bin a.bin refl
   where
-    by_order : (t : Ordering) → a.bin ≡ bin.Now → (z : Rank) × (at_order t (Some r) (Some a) (Some a) ≡ Some z) × (z.bin ≡ bin.Now)
+    by_order : (t : Ordering) → a.bin ≡ bin.Now → (z : Rank) × (match_ordering t (Some r) (Some a) (Some a) ≡ Some z) × (z.bin ≡ bin.Now)
     by_order Less f = (r, refl, e)
     by_order Equal f = (a, refl, f)
     by_order Greater f = (a, refl, f)

@@ -1,9 +1,8 @@
 -- Lists in a strict order, and their members.
 use Rattle.std.proofs.Common.{◌≡◌, ◌⊎◌, inl, inr, Bool, true, false, cond, List, [], ◌∷◌, map, filter, refl, sym, ◌∙◌, ap}
 use Rattle.std.specs.declared.cmp.Ordering.{Ordering}
-use Rattle.std.specs.Ordering.{ordering_reverse}
+use Rattle.std.specs.Ordering.{ordering_reverse, match_ordering}
 use Rattle.std.specs.declared.cmp.Ordering.TheVariants.{Less, Equal, Greater}
-use Rattle.tile_priority.specs.Ranks.{at_order}
 use Rattle.tile_priority.specs.Ordered.{In, SameMembers, BeforeAll, IsInOrder, IsLeast, with_member, in_order}
 use Rattle.tile_priority.specs.Laws.{IsOrder, OrdersFix}
 
@@ -28,7 +27,7 @@ not_itself R o x h = not_both R o x x h h
 
 -- membership of a list with one more member
 in_with_by : {X : Type 0} (x y z : X) (zs ws : List X) (t : Ordering) → (In y ws → (y ≡ x) ⊎ In y zs)
-    → In y (at_order t (x ∷ z ∷ zs) (z ∷ zs) (z ∷ ws)) → (y ≡ x) ⊎ In y (z ∷ zs)
+    → In y (match_ordering t (x ∷ z ∷ zs) (z ∷ zs) (z ∷ ws)) → (y ≡ x) ⊎ In y (z ∷ zs)
 in_with_by x y z zs ws Less f (inl e) = inl e
 in_with_by x y z zs ws Less f (inr i) = inr i
 in_with_by x y z zs ws Equal f i = inr i
@@ -41,7 +40,7 @@ in_with R x y [] (inr i) = absurd i
 in_with R x y (z ∷ zs) i = in_with_by x y z zs (with_member R x zs) (R x z) (in_with R x y zs) i
 
 has_by : {X : Type 0} (R : X → X → Ordering) → IsOrder R → (x z : X) (zs ws : List X) (t : Ordering) → R x z ≡ t → In x ws
-    → In x (at_order t (x ∷ z ∷ zs) (z ∷ zs) (z ∷ ws))
+    → In x (match_ordering t (x ∷ z ∷ zs) (z ∷ zs) (z ∷ ws))
 has_by R o x z zs ws Less h i = inl refl
 has_by R o x z zs ws Equal h i = inl (o.ties_are_equal x z h)
 has_by R o x z zs ws Greater h i = inr i
@@ -51,7 +50,7 @@ with_has R o x [] = inl refl
 with_has R o x (z ∷ zs) = has_by R o x z zs (with_member R x zs) (R x z) refl (with_has R o x zs)
 
 keeps_by : {X : Type 0} (x y z : X) (zs ws : List X) (t : Ordering) → (In y zs → In y ws) → In y (z ∷ zs)
-    → In y (at_order t (x ∷ z ∷ zs) (z ∷ zs) (z ∷ ws))
+    → In y (match_ordering t (x ∷ z ∷ zs) (z ∷ zs) (z ∷ ws))
 keeps_by x y z zs ws Less f i = inr i
 keeps_by x y z zs ws Equal f i = i
 keeps_by x y z zs ws Greater f (inl e) = inl e
@@ -64,7 +63,7 @@ with_keeps R x y (z ∷ zs) i = keeps_by x y z zs (with_member R x zs) (R x z) (
 -- the order of a list with one more member
 order_by : {X : Type 0} (R : X → X → Ordering) → IsOrder R → (x z : X) (zs : List X) (t : Ordering) → R x z ≡ t
     → IsInOrder R (z ∷ zs) → IsInOrder R (with_member R x zs)
-    → IsInOrder R (at_order t (x ∷ z ∷ zs) (z ∷ zs) (z ∷ with_member R x zs))
+    → IsInOrder R (match_ordering t (x ∷ z ∷ zs) (z ∷ zs) (z ∷ with_member R x zs))
 order_by R o x z zs Less h b w =
     ((h, before_all_of R x zs (λ y i. o.total.trans x z y h (before_all_at R z y zs b.0 i))), b)
 order_by R o x z zs Equal h b w = b

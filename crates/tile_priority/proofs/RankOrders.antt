@@ -1,7 +1,7 @@
 -- Keys, ranks and evictable tiles are totally ordered.
 use Rattle.std.proofs.Common.{◌≡◌, inl, inr, Option, Some, None, List, [], ◌∷◌, refl, sym, ◌∙◌, ap}
 use Rattle.std.specs.declared.cmp.Ordering.{Ordering}
-use Rattle.std.specs.Ordering.{ordering_reverse, nat_cmp}
+use Rattle.std.specs.Ordering.{ordering_reverse, nat_cmp, match_ordering}
 use Rattle.std.specs.declared.cmp.Ordering.TheVariants.{Less, Equal, Greater}
 use Rattle.std.specs.Cmp.{IsTotalOrder, then_total, on_total}
 use Rattle.std.specs.FinSet.{nat_cmp-IsAntisymmetric}
@@ -11,7 +11,7 @@ use Rattle.geom.proofs.KeyOrders.{ties_both, key_total, key_ties}
 use Rattle.tile_priority.specs.declared.rank.Bin.{Bin}
 use Rattle.tile_priority.specs.declared.rank.Bin.TheVariants as bin
 use Rattle.tile_priority.specs.declared.rank.Rank.{Rank}
-use Rattle.tile_priority.specs.Ranks.{bin_number, bin_cmp, rank_cmp, at_order, least}
+use Rattle.tile_priority.specs.Ranks.{bin_number, bin_cmp, rank_cmp, least}
 use Rattle.tile_priority.specs.Choice.{Evictable, unranked, ranked, worst_cmp, least_of}
 use Rattle.tile_priority.specs.Ordered.{In, IsLeast}
 use Rattle.tile_priority.specs.Laws.{IsOrder}
@@ -81,7 +81,7 @@ IsLeastOf rs None = (r : Rank) → In r rs → ⊥
 IsLeastOf rs (Some r) = IsLeast rank_cmp r rs
 
 least_some : (r s : Rank) (rs : List Rank) (t : Ordering) → rank_cmp s r ≡ t → IsLeast rank_cmp s rs
-    → IsLeastOf (r ∷ rs) (at_order t (Some s) (Some r) (Some r))
+    → IsLeastOf (r ∷ rs) (match_ordering t (Some s) (Some r) (Some r))
 least_some r s rs Less h l = record {
   one = inr l.one;
   none_before = λ y i k. elim i [

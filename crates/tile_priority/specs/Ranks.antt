@@ -1,8 +1,7 @@
 -- Bins, ranks and their order.
 use Rattle.std.specs.Prelude.{ℕ, Option, Some, None}
 use Rattle.std.specs.declared.cmp.Ordering.{Ordering}
-use Rattle.std.specs.Ordering.{nat_cmp, on, then_cmp}
-use Rattle.std.specs.declared.cmp.Ordering.TheVariants.{Less, Equal, Greater}
+use Rattle.std.specs.Ordering.{nat_cmp, on, then_cmp, match_ordering}
 use Rattle.geom.specs.KeyOrder.{key_cmp}
 use Rattle.tile_priority.specs.declared.rank.Bin.{Bin}
 use Rattle.tile_priority.specs.declared.rank.Bin.TheVariants as bin
@@ -21,14 +20,8 @@ bin_cmp = on bin_number nat_cmp
 abbrev pub rank_cmp : Rank → Rank → Ordering
 rank_cmp = then_cmp (on (λ r. r.bin) bin_cmp) (then_cmp (on (λ r. r.tree) nat_cmp) (then_cmp (on (λ r. r.distance) nat_cmp) (on (λ r. r.key) key_cmp)))
 
--- what stands at an answer of a comparison
-abbrev pub at_order : {A : Type 0} → Ordering → A → A → A → A
-at_order Less x y z = x
-at_order Equal x y z = y
-at_order Greater x y z = z
-
 -- the better of two ranks, either of which may be missing
 abbrev pub least : Option Rank → Option Rank → Option Rank
-least (Some a) (Some b) = at_order (rank_cmp b a) (Some b) (Some a) (Some a)
+least (Some a) (Some b) = match_ordering (rank_cmp b a) (Some b) (Some a) (Some a)
 least (Some a) None = Some a
 least None b = b
