@@ -79,7 +79,7 @@ class Module:
                 own -= 1
             self.items[name] = Item(self.crate, self.name, name, own, last, "\n".join(lines[first:last]))
             if lines[first].startswith("pub data "):
-                self.cases.update({line.split(":")[0].strip(): name for line in lines[first + 1:last] if ":" in line})
+                self.cases.update({case: name for line in lines[first + 1:last] if ":" in line for case in line.split(":")[0].split()})
 
 
 def joined(lines):

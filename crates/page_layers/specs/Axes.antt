@@ -6,8 +6,7 @@ use Rattle.page_layers.specs.declared.moves.Move.{Move}
 
 -- to the right, and downwards
 pub data Axis : Type 0 where
-  across : Axis
-  down : Axis
+  across down : Axis
 
 -- a point, and a move, along an axis
 abbrev pub along : Axis → Point → ℤ

@@ -6,11 +6,7 @@ use Rattle.page_display_list.specs.declared.item.Item.{Item}
 
 -- a number of 32 bits, one with a sign, a rect, a colour, and an item: its rect, and what is painted in it
 pub data Form : Type 0 where
-  whole : Form
-  signed : Form
-  rect : Form
-  colour : Form
-  item : Form
+  whole signed rect colour item : Form
 
 -- a field: its name and its form; what a field of a form holds
 pub record Field : Type 0 where
