@@ -17,7 +17,7 @@ use Rattle.page_layers.specs.declared.command.Command.TheVariants as command
 use Rattle.page_layers.specs.declared.view.View.{View}
 use Rattle.page_layers.specs.Layers.{PageLayer, has_id, with_items}
 use Rattle.page_layers.specs.Lists.{with_first_changed}
-use Rattle.page_layers.specs.Pages.{Page}
+use Rattle.page_layers.specs.Pages.{Page, viewport}
 use Rattle.page_layers.specs.Sound.{IsPage}
 use Rattle.page_layers.specs.Refusals.{has_layer}
 use Rattle.page_layers.specs.Effects.{with_layer_changed, page_after_command, layer_change_of, retiles, main_point, item_rect_at}
@@ -28,7 +28,7 @@ use Rattle.page_layers.specs.Painting.{Items, folded, items_at, layer_before}
 use Rattle.page_layers.specs.TreePainting.{groups_in, opacity_in, lets_through, lies_at, point_in, layer_colour_at, paint}
 use Rattle.page_layers.proofs.FoundLayers.{found-here}
 use Rattle.page_layers.proofs.Unlisted.{unlisted_stays}
-use Rattle.tile_visible.specs.Visible.{viewport, cut_by}
+use Rattle.tile_visible.specs.Visible.{cut_by}
 use Rattle.cc.specs.inner.Edits.{LookAlikeOutside, CoverBoth, CoverFirst, IsNoted, changes_items, shows_rects}
 use Rattle.cc.specs.inner.Flags.{TellsEdited}
 use Rattle.cc.proofs.Pictures.{inside}

@@ -8,8 +8,7 @@ use Rattle.geom.proofs.Cuts.{within_natural}
 use Rattle.geom.proofs.Spans.{both_of}
 use Rattle.pixel.specs.Colours.{Parts}
 use Rattle.viz_scene.specs.Views.{SceneView}
-use Rattle.tile_visible.specs.Visible.{viewport}
-use Rattle.page_layers.specs.Pages.{Page}
+use Rattle.page_layers.specs.Pages.{Page, viewport}
 use Rattle.viz_canvas.specs.Canvases.{CanvasView}
 use Rattle.page_layers.specs.Effects.{main_point}
 use Rattle.viz_painter.specs.Painters.{ShowsWhole, ShowsOutside}

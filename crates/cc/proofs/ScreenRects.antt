@@ -14,10 +14,10 @@ use Rattle.region.specs.Points.{covered}
 use Rattle.region.proofs.Covering.{covered_push}
 use Rattle.page_layers.specs.declared.command.Command.{Command}
 use Rattle.page_layers.specs.Layers.{PageLayer, has_id}
-use Rattle.page_layers.specs.Pages.{Page}
+use Rattle.page_layers.specs.Pages.{Page, viewport}
 use Rattle.page_layers.specs.Effects.{main_point}
 use Rattle.page_layers.proofs.Placing.{covers_back}
-use Rattle.tile_visible.specs.Visible.{viewport, cut_by}
+use Rattle.tile_visible.specs.Visible.{cut_by}
 use Rattle.cc.specs.inner.Edits.{CoverBoth, IsKnownUnion, CoverChange, CoverFirst, IsNoted, changes_items, shows_rects}
 
 -- ---- one rect

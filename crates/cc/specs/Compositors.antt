@@ -10,14 +10,13 @@ use Rattle.page_layers.specs.declared.command.Command.{Command}
 use Rattle.page_layers.specs.declared.fault.EditError.{EditError}
 use Rattle.page_layers.specs.declared.fault.EditError.TheVariants as error
 use Rattle.page_layers.specs.declared.moves.Move.{Move}
-use Rattle.page_layers.specs.Pages.{Page}
+use Rattle.page_layers.specs.Pages.{Page, viewport}
 use Rattle.page_layers.specs.Effects.{page_after_command, main_point, scrolled_by, page_after_pulls}
 use Rattle.page_layers.specs.Outcomes.{Accepts, Refuses}
 use Rattle.page_layers.specs.Scrollers.{has_scroller}
 use Rattle.page_layers.specs.TreePainting.{paint}
 use Rattle.page_hit_test.specs.declared.wheels.Wheel.{Wheel}
 use Rattle.page_hit_test.specs.Wheels.{part_move}
-use Rattle.tile_visible.specs.Visible.{viewport}
 use Rattle.viz_scene.specs.Views.{SceneView}
 use Rattle.viz_scene.specs.Pixels.{scene_pixel}
 use Rattle.viz_canvas.specs.Canvases.{CanvasView, IsOfSize, EachIs, canvas_pixel}

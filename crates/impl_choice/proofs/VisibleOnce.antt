@@ -13,10 +13,10 @@ use Rattle.tile_priority.specs.Ordered.{In}
 use Rattle.tile_priority.proofs.InOrder.{in_map}
 use Rattle.page_properties.specs.Placement.{translation, clip_of, draws}
 use Rattle.page_layers.specs.Layers.{PageLayer, has_id}
-use Rattle.page_layers.specs.Pages.{Page}
+use Rattle.page_layers.specs.Pages.{Page, viewport}
 use Rattle.page_layers.specs.Refusals.{has_layer}
 use Rattle.page_layers.specs.Sound.{AreDistinctLayers}
-use Rattle.tile_visible.specs.Visible.{viewport, grid_of, cut_by, visible_places, visible_keys, put_layer, by_id, key_at}
+use Rattle.tile_visible.specs.Visible.{grid_of, cut_by, visible_places, visible_keys, put_layer, by_id, key_at}
 use Rattle.tile_visible.proofs.SeenPlaces.{none_seen, touched_seen}
 use Rattle.model_history.specs.Tiles.{Tree, visible_in}
 use Rattle.model_history.proofs.BoolFacts.{is_false, and_left, or_neither}

@@ -7,7 +7,7 @@ use Rattle.geom.proofs.Spans.{both_of}
 use Rattle.pixel.specs.Colours.{Parts}
 use Rattle.viz_scene.specs.Views.{SceneView}
 use Rattle.viz_scene.specs.Pixels.{scene_pixel}
-use Rattle.tile_visible.specs.Visible.{viewport}
+use Rattle.page_layers.specs.Pages.{viewport}
 use Rattle.model_history.specs.declared.event.Event.TheVariants as event
 use Rattle.model_history.specs.declared.history.Entry.{Entry}
 use Rattle.model_history.specs.Scripts.{ScriptModel}

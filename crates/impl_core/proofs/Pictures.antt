@@ -2,9 +2,8 @@
 use Rattle.std.proofs.Common.{◌≡◌, ℤ, true, List, Result, Ok, Err, ◌∙◌, ap}
 use Rattle.std.specs.Prelude.{IfOk}
 use Rattle.geom.specs.Covers.{covers}
-use Rattle.page_layers.specs.Pages.{Page}
+use Rattle.page_layers.specs.Pages.{Page, viewport}
 use Rattle.page_layers.specs.TreePainting.{paint}
-use Rattle.tile_visible.specs.Visible.{viewport}
 use Rattle.viz_scene.specs.Views.{SceneView}
 use Rattle.viz_scene.specs.Pixels.{scene_pixel}
 use Rattle.model_history.specs.declared.history.Entry.{Entry}

@@ -14,7 +14,7 @@ use Rattle.model_states.specs.declared.kind.Kind.TheVariants as kind
 use Rattle.model_states.specs.Kinds.{is_sent}
 use Rattle.page_layers.specs.declared.moves.Move.{Move}
 use Rattle.page_layers.specs.TreePainting.{paint}
-use Rattle.tile_visible.specs.Visible.{viewport}
+use Rattle.page_layers.specs.Pages.{viewport}
 use Rattle.model_history.specs.declared.history.Entry.{Entry}
 use Rattle.model_history.specs.Scripts.{ScriptModel}
 use Rattle.model_history.specs.declared.event.Event.{Event}

@@ -4,7 +4,7 @@ ghost use Rattle.std.specs.Prelude.{◌≡◌, ℤ, true, List, IfOk};
 ghost use Rattle.geom.specs.Covers.{covers};
 ghost use Rattle.page_properties.specs.OffsetMap.{offset_at, AreOffsets};
 ghost use Rattle.page_layers.specs.TreePainting.{paint};
-ghost use Rattle.tile_visible.specs.Visible.{viewport};
+ghost use Rattle.page_layers.specs.Pages.{viewport};
 ghost use Rattle.viz_scene.specs.Pixels.{scene_pixel};
 ghost use Rattle.model_history.specs.declared.history.Entry.{Entry};
 ghost use Rattle.model_history.specs.Scripts.{ScriptModel};

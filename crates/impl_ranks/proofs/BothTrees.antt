@@ -33,13 +33,13 @@ use Rattle.std.specs.Ordering.{match_ordering}
 use Rattle.tile_priority.specs.Ordered.{In, SameMembers}
 use Rattle.tile_priority.proofs.Members.{in_append, in_append_left, in_append_right, in_filter_map, filter_map_in}
 use Rattle.page_layers.specs.Layers.{PageLayer, has_id}
-use Rattle.page_layers.specs.Pages.{Page, IsView}
+use Rattle.page_layers.specs.Pages.{Page, IsView, viewport}
 use Rattle.page_layers.specs.Refusals.{has_layer}
 use Rattle.page_layers.specs.Sound.{IsPage, IsLayer}
 use Rattle.page_layers.specs.Sound as sound
 use Rattle.page_layers.proofs.Placing.{size_facts}
 use Rattle.page_properties.specs.Placement.{clip_of}
-use Rattle.tile_visible.specs.Visible.{viewport, grid_of, cut_by, seen, by_id, key_at}
+use Rattle.tile_visible.specs.Visible.{grid_of, cut_by, seen, by_id, key_at}
 use Rattle.model_history.specs.Scripts.{ScriptModel}
 use Rattle.model_history.specs.Ranges.{in_range}
 use Rattle.model_history.specs.Accepted.{IsPlayable}

@@ -9,8 +9,8 @@ use Rattle.page_properties.specs.Placement.{translation, clip_of, draws}
 use Rattle.page_properties.specs.OffsetMap.{offset_at}
 use Rattle.tile_tiling.specs.Tiles.{Tiled, stamp_at}
 use Rattle.page_layers.specs.Layers.{PageLayer}
-use Rattle.page_layers.specs.Pages.{Page}
-use Rattle.tile_visible.specs.Visible.{viewport, grid_of, cut_by}
+use Rattle.page_layers.specs.Pages.{Page, viewport}
+use Rattle.tile_visible.specs.Visible.{grid_of, cut_by}
 use Rattle.model_history.specs.declared.history.Entry.{Entry}
 use Rattle.model_history.specs.Scripts.{ScriptModel}
 use Rattle.model_history.specs.Tiles.{Tree, active_tree, pending_tree}

@@ -12,10 +12,10 @@ use Rattle.tile_priority.specs.Tiles.{Tile}
 use Rattle.tile_priority.specs.Choice.{Choice, evictable_key, evicted}
 use Rattle.tile_priority.specs.Choice as choosing
 use Rattle.page_layers.specs.Layers.{PageLayer, has_id}
-use Rattle.page_layers.specs.Pages.{Page}
+use Rattle.page_layers.specs.Pages.{Page, viewport}
 use Rattle.model_history.specs.declared.history.Entry.{Entry}
 use Rattle.model_history.specs.Scripts.{ScriptModel}
-use Rattle.tile_visible.specs.Visible.{viewport, seen}
+use Rattle.tile_visible.specs.Visible.{seen}
 use Rattle.geom.specs.KeyLists.{has_key}
 use Rattle.model_history.specs.Tiles.{Tree, active_tree, pending_tree, keys_of, live_keys, ready, in_flight, pinned}
 

@@ -23,7 +23,7 @@ use Rattle.std.specs.Ordering.{match_ordering}
 use Rattle.tile_priority.proofs.InOrder.{in_filter, filter_in, in_map}
 use Rattle.tile_priority.proofs.Choosing.{visible_start}
 use Rattle.page_layers.specs.Layers.{PageLayer, has_id}
-use Rattle.page_layers.specs.Pages.{Page}
+use Rattle.page_layers.specs.Pages.{Page, viewport}
 use Rattle.page_layers.specs.Refusals.{has_layer}
 use Rattle.page_layers.specs.Sound.{AreDistinctLayers}
 use Rattle.page_layers.specs.declared.moves.Move.{Move}
@@ -31,7 +31,7 @@ use Rattle.model_history.specs.declared.history.Entry.{Entry}
 use Rattle.model_history.specs.Scripts.{ScriptModel}
 use Rattle.model_history.specs.Accepted.{IsPlayable}
 use Rattle.model_history.specs.Frames.{page, pulls_of, pending, up_to}
-use Rattle.tile_visible.specs.Visible.{viewport, grid_of, seen, visible_places, visible_keys, put_layer, by_id, key_at}
+use Rattle.tile_visible.specs.Visible.{grid_of, seen, visible_places, visible_keys, put_layer, by_id, key_at}
 use Rattle.geom.specs.KeyLists.{has_key}
 use Rattle.model_history.specs.Tiles.{Tree, active_tree, pending_tree, keys_of, visible_in, live_keys, ready, in_flight, required, are_ready}
 use Rattle.model_history.specs.Ranking.{borders, place_named, rank_on, rank_in, rank as key_rank, is_unmade, wanted, choice, rank_to_start}

@@ -1,5 +1,5 @@
 -- Which layer a screen point hits, and which scrollers take a scroll there.
-use Rattle.std.specs.Prelude.{ℕ, ℤ, pos, ◌≡◌, ◌⊎◌, ◌==◌, Bool, true, cond, ◌&&◌, None, List, [], ◌∷◌, ◌++◌, find}
+use Rattle.std.specs.Prelude.{ℕ, ℤ, ◌≡◌, ◌⊎◌, ◌==◌, Bool, true, cond, ◌&&◌, None, List, [], ◌∷◌, ◌++◌, find}
 use Rattle.geom.specs.declared.rect.Point.{Point}
 use Rattle.geom.specs.Covers.{covers}
 use Rattle.page_properties.specs.declared.nodes.ScrollNode.{ScrollNode}
@@ -7,15 +7,12 @@ use Rattle.page_properties.specs.declared.nodes.TransformNode.{TransformNode}
 use Rattle.page_properties.specs.Entries.{gathered}
 use Rattle.page_properties.specs.Placement.{draws}
 use Rattle.page_layers.specs.Layers.{PageLayer}
-use Rattle.page_layers.specs.Pages.{Page}
+use Rattle.page_layers.specs.Pages.{Page, viewport}
 use Rattle.page_layers.specs.TreePainting.{lies_at}
 
 -- whether a layer covers a screen point: the point is inside the viewport, the layer lies there, and no effect in its chain is 0
 abbrev pub covers_point : Page → (ℕ → Point) → ℤ → ℤ → PageLayer → Bool
-covers_point p offset x y l =
-    covers (record { x = pos 0; y = pos 0; w = pos p.view.w; h = pos p.view.h }) x y
-    && lies_at p offset x y l
-    && draws p.props.effects l.effect
+covers_point p offset x y l = covers (viewport p) x y && lies_at p offset x y l && draws p.props.effects l.effect
 
 -- the last layer of the list that covers the point; 0 if none does
 abbrev pub last_covering : (PageLayer → Bool) → List PageLayer → ℕ

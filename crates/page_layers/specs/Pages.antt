@@ -1,7 +1,8 @@
 -- A page: what the commands act on.
-use Rattle.std.specs.Prelude.{ℕ, ◌≤◌, List}
+use Rattle.std.specs.Prelude.{ℕ, pos, ◌≤◌, List}
 use Rattle.geom.specs.Limits.{max_viewport, max_tile}
 use Rattle.geom.specs.declared.rect.Point.{Point}
+use Rattle.geom.specs.declared.rect.Rect.{Rect}
 use Rattle.page_properties.specs.Trees.{Trees as Props}
 use Rattle.page_layers.specs.declared.view.View.{View}
 use Rattle.page_layers.specs.Layers.{PageLayer}
@@ -22,3 +23,7 @@ pub record Page : Type 0 where
   pub layers : List PageLayer
   pub used : List ℕ
   pub values : List (ℕ × Point)
+
+-- the viewport of a page
+abbrev pub viewport : Page → Rect
+viewport p = record { x = pos 0; y = pos 0; w = pos p.view.w; h = pos p.view.h }

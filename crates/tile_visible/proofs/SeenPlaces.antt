@@ -14,8 +14,8 @@ use Rattle.geom.specs.Grids.{rect_of_place, places, places_touching}
 use Rattle.page_properties.specs.Placement.{translation, clip_of, draws, IsWithin}
 use Rattle.page_layers.specs.declared.view.View.{View}
 use Rattle.page_layers.specs.Layers.{PageLayer}
-use Rattle.page_layers.specs.Pages.{Page, IsView}
-use Rattle.tile_visible.specs.Visible.{viewport, grid_of, cut_by, visible_places}
+use Rattle.page_layers.specs.Pages.{Page, IsView, viewport}
+use Rattle.tile_visible.specs.Visible.{grid_of, cut_by, visible_places}
 
 -- ---- a clip cut by a viewport
 

@@ -1,5 +1,5 @@
 -- Which tiles of a page are seen at given offsets of its scrollers, and their keys.
-use Rattle.std.specs.Prelude.{ℕ, pos, cond, nat_lt, List, [], ◌∷◌, map, filter, flat_map, Option, option_map, unwrap_or}
+use Rattle.std.specs.Prelude.{ℕ, cond, nat_lt, List, [], ◌∷◌, map, filter, flat_map, Option, option_map, unwrap_or}
 use Rattle.geom.specs.declared.rect.Point.{Point}
 use Rattle.geom.specs.declared.rect.Rect.{Rect}
 use Rattle.geom.specs.declared.tile.Place.{Place}
@@ -12,12 +12,9 @@ use Rattle.page_properties.specs.Placement.{translation, clip_of, draws}
 use Rattle.tile_priority.specs.declared.tile.Seen.{Seen}
 use Rattle.tile_priority.specs.Bins.{is_visible}
 use Rattle.page_layers.specs.Layers.{PageLayer}
-use Rattle.page_layers.specs.Pages.{Page}
+use Rattle.page_layers.specs.Pages.{Page, viewport}
 
--- the viewport of a page, and a layer cut into its tiles
-abbrev pub viewport : Page → Rect
-viewport p = record { x = pos 0; y = pos 0; w = pos p.view.w; h = pos p.view.h }
-
+-- a layer cut into the tiles of its page
 abbrev pub grid_of : Page → PageLayer → Sides
 grid_of p l = record { w = l.w; h = l.h; tile = p.view.tile }
 

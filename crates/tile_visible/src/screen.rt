@@ -8,6 +8,7 @@ ghost use Rattle.geom.specs.Sides.{IsLayerSide};
 ghost use Rattle.page_properties.specs.OffsetMap.{offset_at, AreOffsets};
 ghost use Rattle.page_properties.specs.Placement.{clip_of, IsWithin};
 ghost use Rattle.page_layers.specs.Layers.{parts_of};
+ghost use Rattle.page_layers.specs.Pages as pages;
 ghost use Rattle.tile_visible.specs.Visible as spec;
 
 use geom::{Grid, Place, Point, Rect};
@@ -17,7 +18,7 @@ use tile_priority::Seen;
 
 /// The viewport of a page.
 pub fn viewport(page: &LayerTree) -> Rect
-    ensures value { result ≡ spec.viewport page.now }
+    ensures value { result ≡ pages.viewport page.now }
     ensures sound { IsSound result }
 {
     page.is_page();
@@ -85,7 +86,7 @@ fn cut_by(view: Rect, clip: Option<Rect>) -> Rect
 /// The part of the viewport that the clip of a layer lets through.
 pub fn clip_in(page: &LayerTree, offsets: &Offsets, layer: &Layer) -> Rect
     requires offsets { AreOffsets (offset_at offsets.now) }
-    ensures value { result ≡ spec.cut_by (spec.viewport page.now) (clip_of (offset_at offsets.now) page.now.props.transforms page.now.props.clips layer.now.clip) }
+    ensures value { result ≡ spec.cut_by (pages.viewport page.now) (clip_of (offset_at offsets.now) page.now.props.transforms page.now.props.clips layer.now.clip) }
     ensures sound { IsSound result }
 {
     cut_by(viewport(page), page.props().clip_of(layer.clip, offsets))

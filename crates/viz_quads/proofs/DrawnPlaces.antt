@@ -13,10 +13,10 @@ use Rattle.geom.proofs.Meets.{points_meet}
 use Rattle.geom.proofs.Covering.{covering, covering_none}
 use Rattle.page_properties.specs.Placement.{clip_of, draws}
 use Rattle.page_layers.specs.Layers.{PageLayer}
-use Rattle.page_layers.specs.Pages.{Page}
+use Rattle.page_layers.specs.Pages.{Page, viewport}
 use Rattle.page_layers.specs.TreePainting.{lets_through, lies_at, point_in, place_at}
 use Rattle.page_layers.proofs.Placing.{covers_back}
-use Rattle.tile_visible.specs.Visible.{viewport, grid_of, cut_by, seen, visible_places}
+use Rattle.tile_visible.specs.Visible.{grid_of, cut_by, seen, visible_places}
 use Rattle.tile_priority.specs.Bins.{is_visible}
 use Rattle.viz_quads.specs.inner.LayerQuads.{Spot, spot_of, screen_of, drawn_part}
 

@@ -19,10 +19,10 @@ use Rattle.page_display_list.specs.Content.{content}
 use Rattle.tile_raster.specs.Images.{Image}
 use Rattle.page_properties.specs.Placement.{draws}
 use Rattle.page_layers.specs.Layers.{PageLayer, has_id}
-use Rattle.page_layers.specs.Pages.{Page}
+use Rattle.page_layers.specs.Pages.{Page, viewport}
 use Rattle.page_layers.specs.Sound.{AreDistinctLayers}
 use Rattle.page_layers.specs.TreePainting.{lies_at, point_in, place_at, lacks_tile_at, colour_inside, layer_colour_at}
-use Rattle.tile_visible.specs.Visible.{viewport, grid_of, visible_places}
+use Rattle.tile_visible.specs.Visible.{grid_of, visible_places}
 use Rattle.tile_visible.proofs.SeenPlaces.{none_seen}
 use Rattle.viz_scene.specs.Pixels.{placed_pixel, quad_over, quads_over}
 use Rattle.viz_quads.specs.ShownTiles.{PageTile, place_of_tile, own_tiles, missing_keys, IsImageOf, ImageMayStand, AreShownTiles}

@@ -14,9 +14,9 @@ use Rattle.geom.proofs.Spans.{both}
 use Rattle.page_properties.specs.Placement.{clip_of, draws}
 use Rattle.tile_raster.specs.Images.{Image}
 use Rattle.page_layers.specs.Layers.{PageLayer, has_id}
-use Rattle.page_layers.specs.Pages.{Page}
+use Rattle.page_layers.specs.Pages.{Page, viewport}
 use Rattle.page_layers.specs.Sound.{AreDistinctLayers}
-use Rattle.tile_visible.specs.Visible.{viewport, grid_of, cut_by, seen, visible_places}
+use Rattle.tile_visible.specs.Visible.{grid_of, cut_by, seen, visible_places}
 use Rattle.tile_priority.specs.Bins.{is_visible}
 use Rattle.viz_scene.specs.Sound.{IsIn, IsTaken, QuadFits}
 use Rattle.viz_quads.specs.ShownTiles.{PageTile, place_of_tile, own_tiles, IsImageOf, ImageMayStand, AreShownTiles}

@@ -12,12 +12,12 @@ use Rattle.pixel.specs.Colours.{Parts, clear}
 use Rattle.page_properties.specs.Placement.{draws}
 use Rattle.page_properties.specs.Trees.{AreEffects}
 use Rattle.page_layers.specs.Layers.{PageLayer, has_id}
-use Rattle.page_layers.specs.Pages.{Page, IsView}
+use Rattle.page_layers.specs.Pages.{Page, IsView, viewport}
 use Rattle.page_layers.specs.Sound.{IsPage}
 use Rattle.page_layers.specs.Painting.{Items, folded}
 use Rattle.page_layers.specs.TreePainting.{groups_in, opacity_in, layer_colour_at, paint}
 use Rattle.page_layers.proofs.SampleColours.{same_items}
-use Rattle.tile_visible.specs.Visible.{viewport, grid_of}
+use Rattle.tile_visible.specs.Visible.{grid_of}
 use Rattle.viz_scene.specs.Views.{QuadView}
 use Rattle.viz_scene.specs.Pixels.{quads_over, scene_pixel}
 use Rattle.viz_scene.specs.Sound.{AreSound, IsScene}

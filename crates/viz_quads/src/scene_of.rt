@@ -4,7 +4,7 @@ ghost use Rattle.std.specs.Prelude.{◌≡◌, ℤ, true, map, IfOk};
 ghost use Rattle.geom.specs.Covers.{covers};
 ghost use Rattle.page_properties.specs.OffsetMap.{offset_at, AreOffsets};
 ghost use Rattle.page_layers.specs.TreePainting.{paint};
-ghost use Rattle.tile_visible.specs.Visible.{viewport};
+ghost use Rattle.page_layers.specs.Pages.{viewport};
 ghost use Rattle.viz_scene.specs.Pixels.{scene_pixel};
 ghost use Rattle.viz_quads.specs.ShownTiles.{tile_of, missing_keys, AreShownTiles};
 

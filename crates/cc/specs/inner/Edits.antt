@@ -9,10 +9,10 @@ use Rattle.page_properties.specs.Placement.{clip_of}
 use Rattle.page_layers.specs.declared.command.Command.{Command}
 use Rattle.page_layers.specs.declared.command.Command.TheVariants as command
 use Rattle.page_layers.specs.Layers.{PageLayer, has_id}
-use Rattle.page_layers.specs.Pages.{Page}
+use Rattle.page_layers.specs.Pages.{Page, viewport}
 use Rattle.page_layers.specs.Effects.{main_point}
 use Rattle.page_layers.specs.TreePainting.{paint, point_in}
-use Rattle.tile_visible.specs.Visible.{viewport, cut_by}
+use Rattle.tile_visible.specs.Visible.{cut_by}
 
 -- two pages have one view, and look alike at each pixel of it outside of some rects, over any background
 pub record LookAlikeOutside (rects : List Rect) (p q : Page) : Type 0 where

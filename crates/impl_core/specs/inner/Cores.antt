@@ -10,9 +10,8 @@ use Rattle.model_states.specs.Kinds.{is_sent, is_ready_to_commit}
 use Rattle.model_states.specs.declared.Synced.{Synced}
 use Rattle.page_layers.specs.declared.moves.Move.{Move}
 use Rattle.page_layers.specs.Axes.{Axis}
-use Rattle.page_layers.specs.Pages.{Page}
+use Rattle.page_layers.specs.Pages.{Page, viewport}
 use Rattle.page_layers.specs.TreePainting.{paint}
-use Rattle.tile_visible.specs.Visible.{viewport}
 use Rattle.viz_scene.specs.Pixels.{scene_pixel}
 use Rattle.model_history.specs.declared.history.Entry.{Entry}
 use Rattle.model_history.specs.Scripts.{ScriptModel}

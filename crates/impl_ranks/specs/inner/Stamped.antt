@@ -3,9 +3,9 @@ use Rattle.std.specs.Prelude.{ℕ}
 use Rattle.geom.specs.declared.rect.Point.{Point}
 use Rattle.page_properties.specs.Placement.{translation, clip_of, draws}
 use Rattle.page_layers.specs.Layers.{PageLayer}
-use Rattle.page_layers.specs.Pages.{Page}
+use Rattle.page_layers.specs.Pages.{Page, viewport}
 use Rattle.tile_tiling.specs.Tiles.{Tiled}
-use Rattle.tile_visible.specs.Visible.{viewport, grid_of, cut_by}
+use Rattle.tile_visible.specs.Visible.{grid_of, cut_by}
 use Rattle.impl_ranks.specs.SeenTrees.{SeenLayerModel}
 
 -- a layer of a page at these offsets, with these stamps

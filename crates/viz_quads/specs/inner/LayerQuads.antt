@@ -12,8 +12,8 @@ use Rattle.page_properties.specs.Placement.{translation, clip_of}
 use Rattle.tile_raster.specs.Images.{Image}
 use Rattle.viz_scene.specs.Views.{QuadView, tiled, plain}
 use Rattle.page_layers.specs.Layers.{PageLayer}
-use Rattle.page_layers.specs.Pages.{Page}
-use Rattle.tile_visible.specs.Visible.{viewport, grid_of, cut_by}
+use Rattle.page_layers.specs.Pages.{Page, viewport}
+use Rattle.tile_visible.specs.Visible.{grid_of, cut_by}
 use Rattle.viz_quads.specs.ShownTiles.{PageTile, place_of_tile, own_tiles}
 
 -- a layer on the screen: its grid, how far it is moved, the part of the viewport that its clip lets through, and its background colour

@@ -4,7 +4,7 @@ use Rattle.std.specs.Prelude.{option_copied, IfOk}
 use Rattle.geom.specs.Covers.{covers}
 use Rattle.page_properties.specs.OffsetMap.{offset_at}
 use Rattle.page_layers.specs.TreePainting.{paint}
-use Rattle.tile_visible.specs.Visible.{viewport}
+use Rattle.page_layers.specs.Pages.{viewport}
 use Rattle.viz_scene.specs.Pixels.{scene_pixel}
 use Rattle.model_history.specs.declared.history.Entry.{Entry}
 use Rattle.model_history.specs.Scripts.{ScriptModel}
