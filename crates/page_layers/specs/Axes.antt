@@ -1,5 +1,5 @@
 -- The two axes, and lists of moves along them.
-use Rattle.std.specs.Prelude.{ℕ, ◌==◌, nat_lt, ℤ, pos, Bool, cond, ◌&&◌, List, [], ◌∷◌, map}
+use Rattle.std.specs.Prelude.{ℕ, ◌==◌, nat_lt, ℤ, pos, Bool, cond, ◌&&◌, List, [], ◌∷◌}
 use Rattle.std.specs.Ordering.{int_eq}
 use Rattle.geom.specs.declared.rect.Point.{Point}
 use Rattle.page_layers.specs.declared.moves.Move.{Move}
@@ -41,7 +41,8 @@ listed f (sc ∷ scs) = with_move (move_of f sc) (listed f scs)
 
 -- the scrollers that a list of moves names
 abbrev pub named_in : List Move → List ℕ
-named_in moves = map (λ m. m.scroller) moves
+named_in [] = []
+named_in (m ∷ ms) = m.scroller ∷ named_in ms
 
 -- numbers by rising number, each once: one more, and several more
 abbrev pub with_number : ℕ → List ℕ → List ℕ
