@@ -1,5 +1,5 @@
 -- The three ways in which a script is told while it is played: what a past has read stays as it was.
-use Rattle.std.proofs.Common.{◌≡◌, ℕ, zero, suc, ◌<◌, true, List, [], ◌∷◌, ◌++◌, length, map, slice_get, slice_index_or, refl, sym, ◌∙◌, ap, arith}
+use Rattle.std.proofs.Common.{◌≡◌, ℕ, zero, suc, ◌<◌, ◌≤◌, ◌-◌, true, List, [], ◌∷◌, ◌++◌, length, map, take, slice_get, slice_index_or, refl, sym, ◌∙◌, ap, arith}
 use Rattle.model_states.specs.Kinds.{is_sent}
 use Rattle.page_layers.specs.declared.command.Command.{Command}
 use Rattle.model_history.specs.declared.input.Input.{Input}
@@ -56,6 +56,17 @@ each_and_last f (y ∷ xs) x = ap (λ (z : List _). f y ∷ z) (each_and_last f 
 pub last_replaced : {A : Type 0} (f : A → List Command) (old new xs : List A) (x y : A) → old ≡ xs ++ x ∷ [] → new ≡ xs ++ y ∷ [] → map f new ≡ with_last (f y) (map f old)
 last_replaced f old new xs x y was is =
     ap (map f) is ∙ (each_and_last f xs y ∙ sym (ap (with_last (f y)) (ap (map f) was ∙ each_and_last f xs x) ∙ last_is (f y) (f x) (map f xs)))
+
+-- where another stands in place of the last, which is taken off
+last_of : {A : Type 0} (f : A → List Command) (xs : List A) (n : ℕ) (y : A) → length xs ≡ suc n → map f (take n xs ++ y ∷ []) ≡ with_last (f y) (map f xs)
+last_of f [] n y e = absurd (omega (arith, e))
+last_of f (x ∷ []) zero y e = refl
+last_of f (x ∷ []) (suc n) y e = absurd (omega (arith, e))
+last_of f (x ∷ z ∷ xs) zero y e = absurd (omega (arith, e))
+last_of f (x ∷ z ∷ xs) (suc n) y e = ap (λ (zs : List (List Command)). f x ∷ zs) (last_of f (z ∷ xs) n y (omega (arith, e)))
+
+pub last_told : {A : Type 0} (f : A → List Command) (xs : List A) (y : A) → 1 ≤ length xs → map f (take (length xs - 1) xs ++ y ∷ []) ≡ with_last (f y) (map f xs)
+last_told f xs y l = last_of f xs (length xs - 1) y (omega (arith, l))
 
 -- ---- what a past has read
 

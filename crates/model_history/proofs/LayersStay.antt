@@ -4,6 +4,7 @@ use Rattle.std.specs.Prelude.{option_map, is_some}
 use Rattle.std.specs.List.{find, list_any}
 use Rattle.std.proofs.lemmas.List.Folds.{list_any-append}
 use Rattle.page_properties.specs.Entries.{is_known}
+use Rattle.page_layers.specs.declared.command.AddLayer.{AddLayer}
 use Rattle.page_layers.specs.declared.command.Command.{Command}
 use Rattle.page_layers.specs.declared.command.Command.TheVariants as command
 use Rattle.page_layers.specs.declared.fault.EditFault.TheVariants as fault
@@ -52,17 +53,17 @@ pub record IsGone (id : ℕ) (p : Page) : Type 0 where
   pub none : has_layer id p.layers ≡ false
 
 -- a new layer has an id that was never used
-added_other : (p : Page) (l : PageLayer) (at id : ℕ) → test_of p (command.AddLayer (record { id = l.id; at = at; transform = l.transform; clip = l.clip; effect = l.effect; w = l.w; h = l.h; colour = l.colour })) ≡ Ok tt → is_used id p.used ≡ true → (l.id == id) ≡ false
+added_other : (p : Page) (c : AddLayer) (id : ℕ) → test_of p (command.AddLayer c) ≡ Ok tt → is_used id p.used ≡ true → (c.id == id) ≡ false
 unfolding test_of
-added_other p l at id ok used =
-    let known = passed (require (is_known l.transform p.props.transforms && is_known l.clip p.props.clips && is_known l.effect p.props.effects) fault.UnknownId) _ tt ok in
-    let unused = passed (require (not (list_any (λ u. u == l.id) p.used)) fault.IdUsed) _ tt known.2 in
-    let new : is_used l.id p.used ≡ false = not_true (is_used l.id p.used) (held (not (is_used l.id p.used)) fault.IdUsed unused.1) in
-    go (l.id == id) refl new
+added_other p c id ok used =
+    let known = passed (require (is_known c.transform p.props.transforms && is_known c.clip p.props.clips && is_known c.effect p.props.effects) fault.UnknownId) _ tt ok in
+    let unused = passed (require (not (list_any (λ u. u == c.id) p.used)) fault.IdUsed) _ tt known.2 in
+    let new : is_used c.id p.used ≡ false = not_true (is_used c.id p.used) (held (not (is_used c.id p.used)) fault.IdUsed unused.1) in
+    go (c.id == id) refl new
   where
-    go : (b : Bool) → (l.id == id) ≡ b → is_used l.id p.used ≡ false → b ≡ false
+    go : (b : Bool) → (c.id == id) ≡ b → is_used c.id p.used ≡ false → b ≡ false
     go false e new = refl
-    go true e new = absurd (not_both (is_used id p.used) used (ap (λ (n : ℕ). is_used n p.used) (sym (eqb-true l.id id e)) ∙ new))
+    go true e new = absurd (not_both (is_used id p.used) used (ap (λ (n : ℕ). is_used n p.used) (sym (eqb-true c.id id e)) ∙ new))
 
 -- a layer that is changed is there as before
 is_some_map : {A B : Type 0} (f : A → B) (o : Option A) → is_some (option_map f o) ≡ is_some o
@@ -83,7 +84,7 @@ there_changed i id f keeps ls = go (i == id) refl
 
 -- a layer that is gone stays gone
 none_after : (p : Page) (c : Command) (id : ℕ) → IsPage p → test_of p c ≡ Ok tt → IsGone id p → has_layer id (page_after_command p c).layers ≡ false
-none_after p (command.AddLayer c) id is ok g = ap (λ (o : Option PageLayer). is_some o) (found-insert id _ p.layers c.at (added_other p _ c.at id ok g.used)) ∙ g.none
+none_after p (command.AddLayer c) id is ok g = ap (λ (o : Option PageLayer). is_some o) (found-insert id _ p.layers c.at (added_other p c id ok g.used)) ∙ g.none
 none_after p (command.RemoveLayer c) id is ok g = absent-without id (has_id c.id) p.layers g.none
 none_after p (command.ResizeLayer c) id is ok g = there_changed c.id id (with_size c.w c.h) (λ l. refl) p.layers ∙ g.none
 none_after p (command.SetColour c) id is ok g = there_changed c.id id (with_colour c.colour) (λ l. refl) p.layers ∙ g.none

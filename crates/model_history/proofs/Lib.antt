@@ -48,4 +48,5 @@ pub mod UsedInputs
 pub mod AnsweredFrames
 pub mod Grown
 pub mod GrownSteps
+mod ToldPlans
 mod SharedLists

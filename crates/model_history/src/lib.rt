@@ -22,6 +22,8 @@ mod laws_sharing;
 mod laws_tiles;
 mod limits;
 mod moves;
+mod plan;
+mod plan_parts;
 mod script;
 mod script_error;
 mod script_parts;
@@ -51,6 +53,7 @@ pub use laws_scrolls::{
 pub use laws_sharing::{dead_keys_stay_dead, equal_keys_show_the_same};
 pub use laws_tiles::{no_key_twice, required_stays_ready};
 pub use moves::Moves;
+pub use plan::Plan;
 pub use script::Script;
 pub use script_error::ScriptError;
 pub use script_parts::ScriptParts;
