@@ -1,7 +1,7 @@
 -- A main frame that is edited, told and answered.
 use Rattle.std.proofs.Common.{◌≡◌, ℕ, zero, suc, ◌<◌, ◌≤◌, Bool, true, false, not, cond, ◌&&◌, List, [], ◌∷◌, ◌++◌, length, slice_get, slice_index_or, Option, Some, None, option_map, Result, Ok, Err, refl, sym, ◌∙◌, ap, subst, arith}
 use Rattle.std.specs.Prelude.{OnOk, OnErr, ⊤}
-use Rattle.std.specs.List.{list_all}
+use Rattle.std.specs.List.{list_all, list_any}
 use Rattle.std.specs.declared.alloc.AllocError.{AllocError}
 use Rattle.geom.specs.declared.rect.Point.{Point}
 use Rattle.geom.specs.declared.tile.TileKey.{TileKey}
@@ -18,20 +18,19 @@ use Rattle.model_history.specs.declared.event.Event.TheVariants as event
 use Rattle.model_history.specs.declared.history.Entry.{Entry}
 use Rattle.model_history.specs.declared.input.Input.{Input}
 use Rattle.model_history.specs.Scripts.{ScriptModel}
-use Rattle.model_history.specs.Accepted.{IsAccepted, TakesAll}
-use Rattle.model_history.specs.Due.{due, on_if}
-use Rattle.model_history.specs.DueParts.{due_ready, due_abort}
+use Rattle.model_history.specs.Accepted.{IsPlayable, TakesAll}
+use Rattle.model_history.specs.Due.{due, on_if, due_ready, due_abort}
 use Rattle.model_history.specs.Ended.{AreBounded, Tells}
 use Rattle.model_history.specs.EventFields.{sends, answers}
 use Rattle.model_history.specs.Frames.{commands_of, page, changes, pulls_of}
 use Rattle.model_history.specs.Growth.{with_last, with_commands}
 use Rattle.model_history.specs.Legal.{sched, can, Legal}
-use Rattle.model_history.specs.Ranges.{command_in_range, are_short}
+use Rattle.model_history.specs.Ranges.{command_in_range}
 use Rattle.model_history.specs.SameChanges.{SameChanges}
+use Rattle.model_history.specs.Scrolls.{scrolls_to}
 use Rattle.model_history.specs.Scans.{counted, held, has_ended, newest}
 use Rattle.model_history.specs.Stamps.{changed_by, unchanged, stamp_in}
 use Rattle.model_history.specs.Tiles.{page_keys}
-use Rattle.model_history.proofs.BoolFacts.{below}
 use Rattle.model_history.proofs.Course.{course}
 use Rattle.model_history.proofs.AnsweredFrames.{answered_course, answered_next}
 use Rattle.model_history.proofs.Grown.{page_same, stamp_same}
@@ -39,7 +38,7 @@ use Rattle.model_history.proofs.GrownSteps.{as_many, reads_commands, one_waits}
 use Rattle.model_history.proofs.PageFacts.{with_values, pulled_values, takes_values}
 use Rattle.model_history.proofs.PullBounds.{pulls_bounded}
 use Rattle.model_history.proofs.RangeBounds.{sent_few}
-use Rattle.model_history.proofs.Rooms.{accepted_commands, short_commands}
+use Rattle.model_history.proofs.GrownPlays.{playable_commands}
 use Rattle.model_history.proofs.DueFacts.{entry}
 use Rattle.model_steps.proofs.GrownKeys.{still_shows}
 use Rattle.impl_log.specs.Runs.{Run, past, now, with_entry, Entered}
@@ -58,10 +57,10 @@ use Rattle.cc_live.proofs.MainSides.{side_sent, side_same}
 
 -- ---- a main frame is sent
 
-pub both_sent : (r new : Run) (waits : Option Input) (draws : ℕ) (jobs : List (Option Job)) (p : Page) (o : Option OpenModel) (x : Result ⊤ AllocError) → OnOk x (Entered r kind.Send 0 new) → OnOk x (Legal new.script new.workers (past new)) → OnErr x (new ≡ r)
-    → IsLive r waits draws jobs × IsMainSide r p o → IsLive new waits draws jobs × IsMainSide new p o
-both_sent r new waits draws jobs p o (Ok u) e l f inv = (stays r new kind.Send waits draws jobs refl e inv.0, side_sent r new p o l e inv.1)
-both_sent r new waits draws jobs p o (Err refused) e l f inv = (same r new waits draws jobs f inv.0, side_same r new p o f inv.1)
+pub both_sent : (r new : Run) (waits : Option Input) (jobs : List (Option Job)) (p : Page) (o : Option OpenModel) (x : Result ⊤ AllocError) → OnOk x (Entered r kind.Send 0 new) → OnOk x (Legal new.script new.workers (past new)) → OnErr x (new ≡ r)
+    → IsLive r waits jobs × IsMainSide r p o → IsLive new waits jobs × IsMainSide new p o
+both_sent r new waits jobs p o (Ok u) e l f inv = (stays r new kind.Send waits jobs refl e inv.0, side_sent r new p o l e inv.1)
+both_sent r new waits jobs p o (Err refused) e l f inv = (same r new waits jobs f inv.0, side_same r new p o f inv.1)
 
 -- ---- a main frame is opened
 
@@ -160,8 +159,8 @@ told_same r k j ms ns e f = moves_of (j, ns) (k, ms) (f ∙ e)
     moves_of : (p q : ℕ × List Move) → Some p ≡ Some q → p.1 ≡ q.1
     moves_of p q i = let h : p ≡ q = cc in ap (λ (z : ℕ × List Move). z.1) h
 
-pub flying_bounded : (r : Run) (k : ℕ) (ms : List Move) → Legal r.script r.workers (past r) → IsAccepted r.script → told_frame r ≡ Some (k, ms) → AreBounded ms
-flying_bounded r k ms legal accepted e = let f : IsInFlight r k ms = flying r k ms e in subst AreBounded (sym f.pulls) (pulls_bounded r.script r.workers (past r) k accepted legal)
+pub flying_bounded : (r : Run) (k : ℕ) (ms : List Move) → Legal r.script r.workers (past r) → IsPlayable r.script → told_frame r ≡ Some (k, ms) → AreBounded ms
+flying_bounded r k ms legal plays e = let f : IsInFlight r k ms = flying r k ms e in subst AreBounded (sym f.pulls) (pulls_bounded r.script r.workers (past r) k plays legal)
 
 module _ (r : Run) (legal : Legal r.script r.workers (past r)) (k : ℕ) (ms : List Move) (f : IsInFlight r k ms) where
   pub answered_is : counted answers (past r) ≡ k
@@ -170,8 +169,8 @@ module _ (r : Run) (legal : Legal r.script r.workers (past r)) (k : ℕ) (ms : L
   pub total_is : counted sends (past r) ≡ suc k
   total_is = (course r.script r.workers (past r) legal).last_is k f.last
 
-  pub frame_last : (waits : Option Input) (draws : ℕ) → IsTold r waits draws → suc k ≡ length r.script.main
-  frame_last waits draws told =
+  pub frame_last : (waits : Option Input) → IsTold r waits → suc k ≡ length r.script.main
+  frame_last waits told =
       let few : counted sends (past r) ≤ length r.script.main = sent_few r.script r.workers (past r) legal in
       let all : length r.script.main ≤ counted sends (past r) = told.all_sent f.sent in
       let total : counted sends (past r) ≡ suc k = total_is in
@@ -219,7 +218,7 @@ module _ (r : Run) (legal : Legal r.script r.workers (past r)) (sent : is_sent (
     has = (λ j. has_key (page_keys (page_told i.pulls i.frames i.answered j) (stamp_told i.pulls i.frames i.answered j)) q) ∙ i.has;
   }
 
-  job_told : IsAccepted t → (o : Option TileKey) (j : Option Job) → IfSettled s (past r) o → HasJob s o j → HasJob t o j
+  job_told : IsPlayable t → (o : Option TileKey) (j : Option Job) → IfSettled s (past r) o → HasJob s o j → HasJob t o j
   job_told a None j i h = h
   job_told a (Some q) None i h = h
   job_told a (Some q) (Some job) i h = record {
@@ -228,8 +227,8 @@ module _ (r : Run) (legal : Legal r.script r.workers (past r)) (sent : is_sent (
     sound = h.sound;
   }
 
-  pub live_told : (waits : Option Input) (draws : ℕ) (jobs : List (Option Job)) → IsAccepted t → IsLive r waits draws jobs → IsLive (told_run r cs) waits draws jobs
-  live_told waits draws jobs a live =
+  pub live_told : (waits : Option Input) (jobs : List (Option Job)) → IsPlayable t → IsLive r waits jobs → IsLive (told_run r cs) waits jobs
+  live_told waits jobs a live =
       let told = live.told in
       let many : length (with_last cs s.main) ≡ length s.main = as_many cs s.main in
       let few = told.sent in
@@ -239,7 +238,6 @@ module _ (r : Run) (legal : Legal r.script r.workers (past r)) (sent : is_sent (
           looked = told.looked;
           used = told.used;
           next = told.next;
-          draws_are = told.draws_are;
           sent = omega (arith, many, few);
           all_sent = λ u. let all = told.all_sent u in omega (arith, many, all);
           version = told.version;
@@ -254,36 +252,33 @@ module _ (r : Run) (legal : Legal r.script r.workers (past r)) (sent : is_sent (
   pub side_told : (p : Page) (o : Option OpenModel) → IsMainSide r p o → IsMainSide (told_run r cs) p None
   side_told p o side = record { main = side.main ∙ sym (page_told (pulls_of (past r)) (counted answers (past r)) (omega arith)); open_frame = tt }
 
-module _ (r : Run) (legal : Legal r.script r.workers (past r)) (k : ℕ) (ms : List Move) (f : IsInFlight r k ms) (p : Page) (frame : OpenModel) (side : IsMainSide r p (Some frame)) (waits : Option Input) (draws : ℕ) (told : IsTold r waits draws) where
+module _ (r : Run) (legal : Legal r.script r.workers (past r)) (k : ℕ) (ms : List Move) (f : IsInFlight r k ms) (p : Page) (frame : OpenModel) (side : IsMainSide r p (Some frame)) (waits : Option Input) (told : IsTold r waits) where
   last : suc k ≡ length r.script.main
-  last = frame_last r legal k ms f waits draws told
+  last = frame_last r legal k ms f waits told
 
   page_is : page r.script (pulls_of (past r)) k ≡ p
   page_is = ap (page r.script (pulls_of (past r))) (sym (answered_is r legal k ms f)) ∙ sym side.main
 
-  pub told_accepted : IsAccepted r.script → IsAccepted (with_commands r.script frame.commands)
-  told_accepted a =
+  pub told_playable : IsPlayable r.script → IsPlayable (with_commands r.script frame.commands)
+  told_playable a =
       let i : IsEdited p frame = side.open_frame in
-      accepted_commands r.script (pulls_of (past r)) k frame.commands a last
-      (subst (λ (v : ℕ). list_all (command_in_range v) frame.commands ≡ true) (sym told.version) i.ranges)
+      playable_commands r.script (pulls_of (past r)) k frame.commands a last
       (subst (λ (q : Page). TakesAll (page_after_pulls (pulls_of (past r) k) q) frame.commands) (sym page_is) (takes_pulled p i.pulls (pulls_of (past r) k) frame.commands i.takes))
-
-  pub told_short : are_short r.script.main ≡ true → are_short (with_commands r.script frame.commands).main ≡ true
-  told_short short = let i : IsEdited p frame = side.open_frame in short_commands r.script frame.commands short (below (length frame.commands) 4294967296 i.few)
 
   before_told : page (with_commands r.script frame.commands) (pulls_of (past r)) k ≡ p
   before_told = let le = answered_is r legal k ms f in page_told r legal f.sent frame.commands (pulls_of (past r)) k (omega (arith, le)) ∙ page_is
 
-  own_commands : commands_of (with_commands r.script frame.commands) k ≡ frame.commands
+  pub own_commands : commands_of (with_commands r.script frame.commands) k ≡ frame.commands
   own_commands = commands_last frame.commands r.script.main k last
 
-  pub told_prepared : (handed : Handed) → MadeOf p ms frame.commands handed → IsPreparedFor (with_commands r.script frame.commands) (pulls_of (past r)) k handed.tree.value handed.changes
+  pub told_prepared : (handed : Handed) → MadeOf p ms frame.commands handed → IsPreparedFor (with_commands r.script frame.commands) (pulls_of (past r)) k handed.tree.value handed.changes handed.outright.items
   told_prepared handed made =
       let own : frame.commands ≡ commands_of (with_commands r.script frame.commands) k = sym own_commands in
       let start : p ≡ page (with_commands r.script frame.commands) (pulls_of (past r)) k = sym before_told in
       record {
         page = made.page ∙ (λ i. commanded (own i) (page_after_pulls (f.pulls i) (start i)));
         changes = subst (SameChanges handed.changes) (λ i. changed_by (page_after_pulls (f.pulls i) (start i)) (own i) unchanged) made.changes;
+        outright_are = λ sc. made.outright sc ∙ ap (λ (cs : List Command). list_any (scrolls_to sc) cs) own;
       }
 
   -- the page takes the commands with any pulls
@@ -332,39 +327,37 @@ module _ (r : Run) (legal : Legal r.script r.workers (past r)) (going : has_ende
         open_frame = tt;
       })
 
-pub both_ready : (r new : Run) (waits : Option Input) (draws : ℕ) (jobs : List (Option Job)) (p : Page) (o : Option OpenModel) (k : ℕ) (ms : List Move) (q : Page) → Legal r.script r.workers (past r) → told_frame r ≡ Some (k, ms) → o ≡ None → q ≡ page r.script (pulls_of (past r)) (suc k) → new ≡ with_entry r 1 (event.Ready k)
-    → IsLive r waits draws jobs × IsMainSide r p o → IsLive new waits draws jobs × IsMainSide new q o
-both_ready r new waits draws jobs p o k ms q legal e closed is entered inv = (
-  stays_entered r new 1 (event.Ready k) waits draws jobs refl entered inv.0,
+pub both_ready : (r new : Run) (waits : Option Input) (jobs : List (Option Job)) (p : Page) (o : Option OpenModel) (k : ℕ) (ms : List Move) (q : Page) → Legal r.script r.workers (past r) → told_frame r ≡ Some (k, ms) → o ≡ None → q ≡ page r.script (pulls_of (past r)) (suc k) → new ≡ with_entry r 1 (event.Ready k)
+    → IsLive r waits jobs × IsMainSide r p o → IsLive new waits jobs × IsMainSide new q o
+both_ready r new waits jobs p o k ms q legal e closed is entered inv = (
+  stays_entered r new 1 (event.Ready k) waits jobs refl entered inv.0,
   subst (IsMainSide new q) (sym closed) (side_ready r legal inv.0.told.going k ms (flying r k ms e) new q entered is),
 )
 
-pub both_abort : (r new : Run) (waits : Option Input) (draws : ℕ) (jobs : List (Option Job)) (p : Page) (o : Option OpenModel) (k : ℕ) (ms : List Move) (q : Page) → Legal r.script r.workers (past r) → told_frame r ≡ Some (k, ms) → o ≡ None → q ≡ page r.script (pulls_of (past r)) (suc k) → new ≡ with_entry r 1 (event.Abort k)
-    → IsLive r waits draws jobs × IsMainSide r p o → IsLive new waits draws jobs × IsMainSide new q o
-both_abort r new waits draws jobs p o k ms q legal e closed is entered inv = (
-  stays_entered r new 1 (event.Abort k) waits draws jobs refl entered inv.0,
+pub both_abort : (r new : Run) (waits : Option Input) (jobs : List (Option Job)) (p : Page) (o : Option OpenModel) (k : ℕ) (ms : List Move) (q : Page) → Legal r.script r.workers (past r) → told_frame r ≡ Some (k, ms) → o ≡ None → q ≡ page r.script (pulls_of (past r)) (suc k) → new ≡ with_entry r 1 (event.Abort k)
+    → IsLive r waits jobs × IsMainSide r p o → IsLive new waits jobs × IsMainSide new q o
+both_abort r new waits jobs p o k ms q legal e closed is entered inv = (
+  stays_entered r new 1 (event.Abort k) waits jobs refl entered inv.0,
   subst (IsMainSide new q) (sym closed) (side_abort r legal inv.0.told.going k ms (flying r k ms e) new q entered is),
 )
 
--- what telling the commands answers
-pub both_told : (r new : Run) (waits : Option Input) (draws : ℕ) (jobs : List (Option Job)) (p : Page) (frame : OpenModel) (k : ℕ) (ms : List Move) (x : Result ⊤ AllocError) → Legal r.script r.workers (past r) → IsAccepted r.script → told_frame r ≡ Some (k, ms) → OnOk x (new ≡ told_run r frame.commands) → OnErr x (new ≡ r)
-    → IsLive r waits draws jobs × IsMainSide r p (Some frame) → IsLive new waits draws jobs × IsMainSide new p None
-both_told r new waits draws jobs p frame k ms (Ok u) legal a e is err inv =
+-- once its commands are told
+pub both_told : (r new : Run) (waits : Option Input) (jobs : List (Option Job)) (p : Page) (frame : OpenModel) (k : ℕ) (ms : List Move) → Legal r.script r.workers (past r) → IsPlayable r.script → told_frame r ≡ Some (k, ms) → new ≡ told_run r frame.commands
+    → IsLive r waits jobs × IsMainSide r p (Some frame) → IsLive new waits jobs × IsMainSide new p None
+both_told r new waits jobs p frame k ms legal a e is inv =
     let f : IsInFlight r k ms = flying r k ms e in (
-      subst (λ (z : Run). IsLive z waits draws jobs) (sym is) (live_told r legal f.sent frame.commands waits draws jobs (told_accepted r legal k ms f p frame inv.1 waits draws inv.0.told a) inv.0),
+      subst (λ (z : Run). IsLive z waits jobs) (sym is) (live_told r legal f.sent frame.commands waits jobs (told_playable r legal k ms f p frame inv.1 waits inv.0.told a) inv.0),
       subst (λ (z : Run). IsMainSide z p None) (sym is) (side_told r legal f.sent frame.commands p (Some frame) inv.1),
     )
-both_told r new waits draws jobs p frame k ms (Err refused) legal a e is err inv = (same r new waits draws jobs err inv.0, subst (λ (z : Run). IsMainSide z p None) (sym err) (record { main = inv.1.main; open_frame = tt }))
 
 pub some_same : {A : Type 0} (x y : A) → Some x ≡ Some y → x ≡ y
 some_same x y e = cc
 
-pub made_ok : (r : Run) (l : LiveModel) (frame : OpenModel) (k : ℕ) (ms : List Move) (handed : Handed) (x : Result ⊤ AllocError) → told_frame r ≡ Some (k, ms) → l.open_frame ≡ None → IsPreparedFor (with_commands r.script frame.commands) (pulls_of (past r)) k handed.tree.value handed.changes
-    → OnOk x (l.run ≡ told_run r frame.commands) → OnOk x (IsMade l k handed)
-made_ok r l frame k ms handed (Ok u) e closed prepared is = record {
+pub made_told : (r : Run) (l : LiveModel) (frame : OpenModel) (k : ℕ) (ms : List Move) (handed : Handed) → told_frame r ≡ Some (k, ms) → l.open_frame ≡ None → IsPreparedFor (with_commands r.script frame.commands) (pulls_of (past r)) k handed.tree.value handed.changes handed.outright.items
+    → l.run ≡ told_run r frame.commands → IsMade l k handed
+made_told r l frame k ms handed e closed prepared is = record {
   closed = closed;
   pulls = ms;
   in_flight = ap told_frame is ∙ e;
-  prepared = subst (λ (z : Run). IsPreparedFor z.script (pulls_of (past z)) k handed.tree.value handed.changes) (sym is) prepared;
+  prepared = subst (λ (z : Run). IsPreparedFor z.script (pulls_of (past z)) k handed.tree.value handed.changes handed.outright.items) (sym is) prepared;
 }
-made_ok r l frame k ms handed (Err refused) e closed prepared is = tt

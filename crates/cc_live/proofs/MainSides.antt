@@ -144,9 +144,8 @@ side_frame r p o side =
       open_frame = side.open_frame;
     }
 
-pub side_frame_told : (r new : Run) (p : Page) (o : Option OpenModel) (x : Result ⊤ AllocError) → OnOk x (new ≡ with_script r (with_main_frame r.script)) → OnErr x (new ≡ r) → IsMainSide r p o → IsMainSide new p o
-side_frame_told r new p o (Ok u) e f side = subst (λ (z : Run). IsMainSide z p o) (sym e) (side_frame r p o side)
-side_frame_told r new p o (Err refused) e f side = side_same r new p o f side
+pub side_frame_told : (r new : Run) (p : Page) (o : Option OpenModel) → new ≡ with_script r (with_main_frame r.script) → IsMainSide r p o → IsMainSide new p o
+side_frame_told r new p o e side = subst (λ (z : Run). IsMainSide z p o) (sym e) (side_frame r p o side)
 
 -- ---- a key that is live is one of a page whose main frames were answered
 

@@ -6,8 +6,7 @@ use Rattle.geom.specs.Covers.{within, covers}
 use Rattle.geom.proofs.Cuts.{within_natural}
 use Rattle.geom.proofs.Spans.{both_of}
 use Rattle.pixel.specs.Colours.{Parts}
-use Rattle.page_layers.specs.Pages.{Page}
-use Rattle.tile_visible.specs.Visible.{viewport}
+use Rattle.page_layers.specs.Pages.{Page, viewport}
 use Rattle.viz_scene.specs.Views.{SceneView}
 use Rattle.viz_canvas.specs.Buffers.{ShowsScene}
 use Rattle.model_history.specs.declared.history.Entry.{Entry}

@@ -4,7 +4,7 @@ use Rattle.std.specs.Prelude.{◌≤ℤ◌}
 use Rattle.std.proofs.lemmas.Int.{ints}
 use Rattle.geom.specs.declared.rect.Point.{Point}
 use Rattle.page_layers.specs.Axes.{Axis, across, down}
-use Rattle.page_layers.specs.Scrolls.{origin, IsInRange}
+use Rattle.page_layers.specs.Scrolls.{IsInRange}
 use Rattle.page_layers.specs.Scrollers.{has_scroller, most}
 use Rattle.model_states.specs.declared.Synced.{Synced}
 use Rattle.model_states.specs.Bounds.{IsBounded}
@@ -46,7 +46,7 @@ point x y = record { x = x; y = y }
 same_point : (a b x y : ℤ) → a ≡ x → b ≡ y → point a b ≡ point x y
 same_point a b x y p q = ap (λ (z : ℤ). point z b) p ∙ ap (λ (z : ℤ). point x z) q
 
-choose : (b : Bool) (x y : ℤ) → (b ≡ false → (x ≡ pos 0) × (y ≡ pos 0)) → point x y ≡ cond b (point x y) origin
+choose : (b : Bool) (x y : ℤ) → (b ≡ false → (x ≡ pos 0) × (y ≡ pos 0)) → point x y ≡ cond b (point x y) (point (pos 0) (pos 0))
 choose true x y none = refl
 choose false x y none = same_point x y (pos 0) (pos 0) (none refl).0 (none refl).1
 

@@ -21,7 +21,6 @@ use Rattle.model_history.specs.declared.history.Entry.{Entry}
 use Rattle.model_history.specs.declared.input.Input.{Input}
 use Rattle.model_history.specs.declared.input.Input.TheVariants as input
 use Rattle.model_history.specs.Scripts.{ScriptModel}
-use Rattle.model_history.specs.Accepted.{IsAccepted}
 use Rattle.model_states.specs.Kinds.{is_sent}
 use Rattle.model_history.specs.EventFields.{kind_of, uses, sends, answers, held_after, is_last}
 use Rattle.model_history.specs.Scans.{counted, one_more, held, has_ended}
@@ -31,7 +30,6 @@ use Rattle.model_history.specs.Sharing.{has_page_key, key_rect}
 use Rattle.model_history.specs.Tiles.{page_keys}
 use Rattle.model_history.specs.Legal.{Legal, sched}
 use Rattle.model_history.specs.Growth.{with_input, with_main_frame, has_looked_ahead, looks_ahead}
-use Rattle.model_history.specs.Ranges.{draw_count}
 use Rattle.model_history.proofs.BoolFacts.{not_both, same_number, other_number}
 use Rattle.model_history.proofs.DueFacts.{entry}
 use Rattle.model_history.proofs.DueRows.{due_row}
@@ -43,9 +41,9 @@ use Rattle.impl_log.specs.Runs.{Run, past, with_entry, with_script, Entered, Pla
 use Rattle.viz_scene.specs.Views.{SceneView}
 use Rattle.impl_core.specs.Replies.{Draws, StartsKey}
 use Rattle.impl_log.proofs.LogSteps.{past_more, now_is}
-use Rattle.cc_live.specs.Calls.{is_for_host, is_draw, kind_using, one_if, HasRoom, IsWorn, IsWornFor}
+use Rattle.cc_live.specs.Calls.{is_for_host, kind_using}
 use Rattle.cc_live.specs.inner.Kept.{Puts, IsTold, AreOut, IsLive, HasJob, IsJobOf, IsSettled, IfSettled, waiting}
-use Rattle.cc_live.proofs.ToldInputs.{longer, none_at_end, last_one, draws_with}
+use Rattle.cc_live.proofs.ToldInputs.{longer, none_at_end, last_one}
 
 -- ---- an event of a kind
 
@@ -124,8 +122,8 @@ all_after h a (event.Abort k) m few all t = absurd cc
 all_after h a (event.Commit k) m few all t = absurd cc
 all_after h a _ m few all t = all t
 
-told_after : (r : Run) (waits : Option Input) (draws : ℕ) (a : ℕ) (e : Event) → IsTold r waits draws → is_last e ≡ false → looks_ahead e ≡ false → uses e ≡ None → IsTold (with_entry r a e) waits draws
-told_after r waits draws a e t last looks none =
+told_after : (r : Run) (waits : Option Input) (a : ℕ) (e : Event) → IsTold r waits → is_last e ≡ false → looks_ahead e ≡ false → uses e ≡ None → IsTold (with_entry r a e) waits
+told_after r waits a e t last looks none =
     let p : past (with_entry r a e) ≡ entry a e ∷ past r = past_with r a e in
     let u : counted uses (entry a e ∷ past r) ≡ counted uses (past r) = same_none (uses e) (counted uses (past r)) none in
     let s = more_sends (sends e) (counted sends (past r)) in
@@ -135,15 +133,13 @@ told_after r waits draws a e t last looks none =
       looked = ap has_looked_ahead p ∙ ((λ i. looks i || has_looked_ahead (past r)) ∙ t.looked);
       used = t.used ∙ sym (ap (λ n. n + waiting waits) (ap (counted uses) p ∙ u));
       next = ap (slice_get r.script.inputs) (ap (counted uses) p ∙ u) ∙ t.next;
-      draws_are = t.draws_are;
       sent = subst (λ (h : List Entry). length r.script.main ≤ counted sends h + 1) (sym p) (omega (arith, s, sent));
       all_sent = subst (λ (h : List Entry). is_sent (sched h).main_state ≡ true → length r.script.main ≤ counted sends h) (sym p) (all_after (past r) a e (length r.script.main) t.sent t.all_sent);
       version = t.version;
-      accepted = t.accepted;
     }
 
-used_after : (r : Run) (x : Input) (draws : ℕ) (a : ℕ) (e : Event) → IsTold r (Some x) draws → Takes e → IsTold (with_entry r a e) None draws
-used_after r x draws a e t l =
+used_after : (r : Run) (x : Input) (a : ℕ) (e : Event) → IsTold r (Some x) → Takes e → IsTold (with_entry r a e) None
+used_after r x a e t l =
     let p : past (with_entry r a e) ≡ entry a e ∷ past r = past_with r a e in
     let u : counted uses (entry a e ∷ past r) ≡ suc (counted uses (past r)) = one_used (uses e) (counted uses (past r)) l.uses in
     let all : length r.script.inputs ≡ counted uses (past r) + 1 = t.used in
@@ -155,11 +151,9 @@ used_after r x draws a e t l =
       looked = ap has_looked_ahead p ∙ ((λ i. l.looks i || has_looked_ahead (past r)) ∙ t.looked);
       used = subst (λ (h : List Entry). length r.script.inputs ≡ counted uses h + 0) (sym p) (omega (arith, whole));
       next = ap (slice_get r.script.inputs) (ap (counted uses) p ∙ whole) ∙ none_at_end r.script.inputs;
-      draws_are = t.draws_are;
       sent = subst (λ (h : List Entry). length r.script.main ≤ counted sends h + 1) (sym p) (omega (arith, s, sent));
       all_sent = subst (λ (h : List Entry). is_sent (sched h).main_state ≡ true → length r.script.main ≤ counted sends h) (sym p) (all_after (past r) a e (length r.script.main) t.sent t.all_sent);
       version = t.version;
-      accepted = t.accepted;
     }
 
 -- a key of a page that the script has stays one
@@ -180,31 +174,31 @@ jobs_after r jobs a e h out = record {
 }
 
 -- an event that uses no input and no tile
-pub stays : (r new : Run) (k : Kind) (waits : Option Input) (draws : ℕ) (jobs : List (Option Job)) → is_quiet k ≡ true → Entered r k 0 new → IsLive r waits draws jobs → IsLive new waits draws jobs
-stays r new k waits draws jobs q e live =
+pub stays : (r new : Run) (k : Kind) (waits : Option Input) (jobs : List (Option Job)) → is_quiet k ≡ true → Entered r k 0 new → IsLive r waits jobs → IsLive new waits jobs
+stays r new k waits jobs q e live =
     let l : Leaves e.event = quiet_leaves e.event (ap is_quiet (kind_is r new k e) ∙ q) in
-    subst (λ (z : Run). IsLive z waits draws jobs) (sym e.is_entered) (record { told = told_after r waits draws 0 e.event live.told l.last l.looks l.uses; out = jobs_after r jobs 0 e.event l.held live.out })
+    subst (λ (z : Run). IsLive z waits jobs) (sym e.is_entered) (record { told = told_after r waits 0 e.event live.told l.last l.looks l.uses; out = jobs_after r jobs 0 e.event l.held live.out })
 
 -- the same of any actor
-pub stays_entered : (r new : Run) (a : ℕ) (e : Event) (waits : Option Input) (draws : ℕ) (jobs : List (Option Job)) → is_quiet (kind_of e) ≡ true → new ≡ with_entry r a e → IsLive r waits draws jobs → IsLive new waits draws jobs
-stays_entered r new a e waits draws jobs q is live =
+pub stays_entered : (r new : Run) (a : ℕ) (e : Event) (waits : Option Input) (jobs : List (Option Job)) → is_quiet (kind_of e) ≡ true → new ≡ with_entry r a e → IsLive r waits jobs → IsLive new waits jobs
+stays_entered r new a e waits jobs q is live =
     let l : Leaves e = quiet_leaves e q in
-    subst (λ (z : Run). IsLive z waits draws jobs) (sym is) (record { told = told_after r waits draws a e live.told l.last l.looks l.uses; out = jobs_after r jobs a e l.held live.out })
+    subst (λ (z : Run). IsLive z waits jobs) (sym is) (record { told = told_after r waits a e live.told l.last l.looks l.uses; out = jobs_after r jobs a e l.held live.out })
 
 -- the same of an answer, which tells whether there was one
-pub stays_played : (r new : Run) (k : Kind) (waits : Option Input) (draws : ℕ) (jobs : List (Option Job)) (x : Result Bool AllocError) → is_quiet k ≡ true → IfOk x (λ played. Plays r k 0 new played) → OnErr x (new ≡ r) → IsLive r waits draws jobs → IsLive new waits draws jobs
-stays_played r new k waits draws jobs (Ok true) q e u live = stays r new k waits draws jobs q e live
-stays_played r new k waits draws jobs (Ok false) q e u live = subst (λ (z : Run). IsLive z waits draws jobs) (sym e.1) live
-stays_played r new k waits draws jobs (Err refused) q e u live = subst (λ (z : Run). IsLive z waits draws jobs) (sym u) live
+pub stays_played : (r new : Run) (k : Kind) (waits : Option Input) (jobs : List (Option Job)) (x : Result Bool AllocError) → is_quiet k ≡ true → IfOk x (λ played. Plays r k 0 new played) → OnErr x (new ≡ r) → IsLive r waits jobs → IsLive new waits jobs
+stays_played r new k waits jobs (Ok true) q e u live = stays r new k waits jobs q e live
+stays_played r new k waits jobs (Ok false) q e u live = subst (λ (z : Run). IsLive z waits jobs) (sym e.1) live
+stays_played r new k waits jobs (Err refused) q e u live = subst (λ (z : Run). IsLive z waits jobs) (sym u) live
 
-pub same : (r new : Run) (waits : Option Input) (draws : ℕ) (jobs : List (Option Job)) → new ≡ r → IsLive r waits draws jobs → IsLive new waits draws jobs
-same r new waits draws jobs e live = subst (λ (z : Run). IsLive z waits draws jobs) (sym e) live
+pub same : (r new : Run) (waits : Option Input) (jobs : List (Option Job)) → new ≡ r → IsLive r waits jobs → IsLive new waits jobs
+same r new waits jobs e live = subst (λ (z : Run). IsLive z waits jobs) (sym e) live
 
 -- the event of the input that waits
-pub used : (r new : Run) (x : Input) (draws : ℕ) (jobs : List (Option Job)) → is_for_host x ≡ true → Entered r (kind_using x) 0 new → IsLive r (Some x) draws jobs → IsLive new None draws jobs
-used r new x draws jobs host e live =
+pub used : (r new : Run) (x : Input) (jobs : List (Option Job)) → is_for_host x ≡ true → Entered r (kind_using x) 0 new → IsLive r (Some x) jobs → IsLive new None jobs
+used r new x jobs host e live =
     let l : Takes e.event = input_takes e.event x host (kind_is r new (kind_using x) e) in
-    subst (λ (z : Run). IsLive z None draws jobs) (sym e.is_entered) (record { told = used_after r x draws 0 e.event live.told l; out = jobs_after r jobs 0 e.event l.held live.out })
+    subst (λ (z : Run). IsLive z None jobs) (sym e.is_entered) (record { told = used_after r x 0 e.event live.told l; out = jobs_after r jobs 0 e.event l.held live.out })
 
 -- ---- a worker starts a tile, and is done with one
 
@@ -246,17 +240,17 @@ module _ (r : Run) (jobs new_jobs : List (Option Job)) (slot : ℕ) (out : AreOu
       settled = λ w lt. subst (λ (past : List Entry). IfSettled r.script past (held w past)) (sym (past_with r (2 + slot) starting)) (start_settled w lt (slot == w));
     }
 
-pub done_live : (r new : Run) (waits : Option Input) (draws : ℕ) (jobs new_jobs : List (Option Job)) (slot : ℕ) (q : TileKey) → new ≡ with_entry r (2 + slot) (event.DoneTile slot q) → Puts jobs slot None new_jobs → IsLive r waits draws jobs → IsLive new waits draws new_jobs
-done_live r new waits draws jobs new_jobs slot q e puts live =
-    subst (λ (z : Run). IsLive z waits draws new_jobs) (sym e)
-    (record { told = told_after r waits draws (2 + slot) (event.DoneTile slot q) live.told refl refl refl; out = done_out r jobs new_jobs slot live.out q puts })
+pub done_live : (r new : Run) (waits : Option Input) (jobs new_jobs : List (Option Job)) (slot : ℕ) (q : TileKey) → new ≡ with_entry r (2 + slot) (event.DoneTile slot q) → Puts jobs slot None new_jobs → IsLive r waits jobs → IsLive new waits new_jobs
+done_live r new waits jobs new_jobs slot q e puts live =
+    subst (λ (z : Run). IsLive z waits new_jobs) (sym e)
+    (record { told = told_after r waits (2 + slot) (event.DoneTile slot q) live.told refl refl refl; out = done_out r jobs new_jobs slot live.out q puts })
 
-pub start_live : (r new : Run) (waits : Option Input) (draws : ℕ) (jobs new_jobs : List (Option Job)) (slot : ℕ) (job : Job) → StartsKey r slot job.key new → KeyShows r.script job.key job.rect job.list.value → IsSound job.rect → IsSettled r.script (past r) job.key → Puts jobs slot (Some job) new_jobs
-    → IsLive r waits draws jobs → IsLive new waits draws new_jobs
-start_live r new waits draws jobs new_jobs slot job e shows sound settled puts live =
-    subst (λ (z : Run). IsLive z waits draws new_jobs) (sym e.is_entered)
+pub start_live : (r new : Run) (waits : Option Input) (jobs new_jobs : List (Option Job)) (slot : ℕ) (job : Job) → StartsKey r slot job.key new → KeyShows r.script job.key job.rect job.list.value → IsSound job.rect → IsSettled r.script (past r) job.key → Puts jobs slot (Some job) new_jobs
+    → IsLive r waits jobs → IsLive new waits new_jobs
+start_live r new waits jobs new_jobs slot job e shows sound settled puts live =
+    subst (λ (z : Run). IsLive z waits new_jobs) (sym e.is_entered)
     (record {
-      told = told_after r waits draws (2 + slot) (event.Start slot job.key e.evicted) live.told refl refl refl;
+      told = told_after r waits (2 + slot) (event.Start slot job.key e.evicted) live.told refl refl refl;
       out = start_out r jobs new_jobs slot live.out job.key e.evicted job (record { key = refl; shows = shows; sound = sound }) settled puts;
     })
 
@@ -286,8 +280,8 @@ settled_in s t h (Some q) pages stamps i = record {
 }
 
 -- an input that is told
-pub told_more : (r : Run) (x : Input) (draws : ℕ) (jobs : List (Option Job)) → IsAccepted (with_input r.script x) → IsLive r None draws jobs → IsLive (with_script r (with_input r.script x)) (Some x) (draws + one_if (is_draw x)) jobs
-told_more r x draws jobs accepted live =
+pub told_more : (r : Run) (x : Input) (jobs : List (Option Job)) → IsLive r None jobs → IsLive (with_script r (with_input r.script x)) (Some x) jobs
+told_more r x jobs live =
     let s : ScriptModel = r.script in
     let t = live.told in
     let all : length s.inputs ≡ counted uses (past r) + 0 = t.used in
@@ -300,11 +294,9 @@ told_more r x draws jobs accepted live =
         looked = t.looked;
         used = omega (arith, l, whole);
         next = ap (slice_get (s.inputs ++ x ∷ [])) whole ∙ last_one s.inputs x;
-        draws_are = draws_with s.inputs x ∙ ap (λ n. n + one_if (is_draw x)) t.draws_are;
         sent = t.sent;
         all_sent = t.all_sent;
         version = t.version;
-        accepted = accepted;
       };
       out = record {
         count = live.out.count;
@@ -326,14 +318,14 @@ no_commands [] (suc k) = refl
 no_commands (f ∷ fs) zero = refl
 no_commands (f ∷ fs) (suc k) = no_commands fs k
 
-frame_more : (r : Run) (waits : Option Input) (draws : ℕ) (jobs : List (Option Job)) → length r.script.main ≤ counted sends (past r) → is_sent (sched (past r)).main_state ≡ false → IsAccepted (with_main_frame r.script) → IsLive r waits draws jobs → IsLive (with_script r (with_main_frame r.script)) waits draws jobs
-frame_more r waits draws jobs none free accepted live =
+frame_more : (r : Run) (waits : Option Input) (jobs : List (Option Job)) → length r.script.main ≤ counted sends (past r) → is_sent (sched (past r)).main_state ≡ false → IsLive r waits jobs → IsLive (with_script r (with_main_frame r.script)) waits jobs
+frame_more r waits jobs none free live =
     let s : ScriptModel = r.script in
     let t = live.told in
     let l : length (s.main ++ [] ∷ []) ≡ suc (length s.main) = longer s.main [] in
     let no : (i : ℕ) → i < 0 → slice_get s.inputs i ≡ slice_get s.inputs i = λ i h. refl in
     record {
-      told = record { going = t.going; looked = t.looked; used = t.used; next = t.next; draws_are = t.draws_are; sent = omega (arith, l, none); all_sent = λ u. absurd (not_both (is_sent (sched (past r)).main_state) u free); version = t.version; accepted = accepted };
+      told = record { going = t.going; looked = t.looked; used = t.used; next = t.next; sent = omega (arith, l, none); all_sent = λ u. absurd (not_both (is_sent (sched (past r)).main_state) u free); version = t.version };
       out = record {
         count = live.out.count;
         settled = λ w lt. settled_in s (with_main_frame s) (past r) (held w (past r))
@@ -347,43 +339,31 @@ frame_more r waits draws jobs none free accepted live =
       };
     }
 
--- how many inputs there are while none waits, and how many of them are draws
-module _ (r : Run) (waits : Option Input) (draws n : ℕ) (jobs : List (Option Job)) (live : IsLive r waits draws jobs) (free : waits ≡ None) (used : n ≡ counted uses (past r)) where
-  all_used : n ≡ length r.script.inputs
-  all_used =
-      let e : length r.script.inputs ≡ counted uses (past r) + 0 = live.told.used ∙ ap (λ w. counted uses (past r) + waiting w) free in
-      omega (arith, e, used)
-
-  pub room_for : (x : Input) → HasRoom n draws x → HasRoom (length r.script.inputs) (draw_count r.script.inputs) x
-  room_for x h = subst (λ m. HasRoom m (draw_count r.script.inputs) x) all_used (subst (λ m. HasRoom n m x) (sym live.told.draws_are) h)
-
-  pub worn_for : (x : Input) → IsWorn n draws x → IsWornFor r.script.inputs x
-  worn_for x h = subst (λ m. IsWorn m (draw_count r.script.inputs) x) all_used (subst (λ m. IsWorn n m x) (sym live.told.draws_are) h)
+-- how many inputs there are while none waits
+pub all_used : (r : Run) (waits : Option Input) (n : ℕ) (jobs : List (Option Job)) → IsLive r waits jobs → waits ≡ None → n ≡ counted uses (past r) → n ≡ length r.script.inputs
+all_used r waits n jobs live free used =
+    let e : length r.script.inputs ≡ counted uses (past r) + 0 = live.told.used ∙ ap (λ w. counted uses (past r) + waiting w) free in
+    omega (arith, e, used)
 
 -- no main frame is left where each that there is was sent
 none_left : (s : ScriptModel) (h : List Entry) → is_left s h ≡ false → length s.main ≤ counted sends h
 none_left s h f = grind (arith, nat_tests, f)
 
 -- what a draw answers
-pub stays_drawn : (r new : Run) (waits : Option Input) (draws : ℕ) (jobs : List (Option Job)) (x : Result (Option SceneView) AllocError) → IfOk x (Draws r new) → OnErr x (new ≡ r) → IsLive r waits draws jobs → IsLive new waits draws jobs
-stays_drawn r new waits draws jobs (Ok (Some scene)) d u live = stays r new kind.Draw waits draws jobs refl d.entered live
-stays_drawn r new waits draws jobs (Ok None) d u live = same r new waits draws jobs d.1 live
-stays_drawn r new waits draws jobs (Err refused) d u live = same r new waits draws jobs u live
+pub stays_drawn : (r new : Run) (waits : Option Input) (jobs : List (Option Job)) (x : Result (Option SceneView) AllocError) → IfOk x (Draws r new) → OnErr x (new ≡ r) → IsLive r waits jobs → IsLive new waits jobs
+stays_drawn r new waits jobs (Ok (Some scene)) d u live = stays r new kind.Draw waits jobs refl d.entered live
+stays_drawn r new waits jobs (Ok None) d u live = same r new waits jobs d.1 live
+stays_drawn r new waits jobs (Err refused) d u live = same r new waits jobs u live
 
-pub few_left : (s : ScriptModel) (h : List Entry) (k : ℕ) → is_left s h ≡ false → k ≡ counted sends h → k < 4096 → length s.main < 4096
-few_left s h k f e few = let all = none_left s h f in omega (arith, all, e, few)
+-- how many main frames there are while none is left
+pub all_sent_is : (s : ScriptModel) (n : ℕ) (h : List Entry) (k : ℕ) → Legal s n h → is_left s h ≡ false → k ≡ counted sends h → k ≡ length s.main
+all_sent_is s n h k l f e = let all = none_left s h f in let few = sent_few s n h l in omega (arith, all, few, e)
 
--- each main frame that was sent is one of the script
-pub worn_frames : (s : ScriptModel) (n : ℕ) (h : List Entry) (k : ℕ) → Legal s n h → k ≡ counted sends h → 4096 ≤ k → 4096 ≤ length s.main
-worn_frames s n h k l e many = let all = sent_few s n h l in omega (arith, all, e, many)
+-- a main frame that is told while none is left
+pub frame_told : (r new : Run) (waits : Option Input) (jobs : List (Option Job)) → new ≡ with_script r (with_main_frame r.script) → is_left r.script (past r) ≡ false → is_sent (sched (past r)).main_state ≡ false → IsLive r waits jobs → IsLive new waits jobs
+frame_told r new waits jobs e left free live = subst (λ (z : Run). IsLive z waits jobs) (sym e) (frame_more r waits jobs (none_left r.script (past r) left) free live)
 
--- what telling a main frame answers
-pub frame_told : (r new : Run) (waits : Option Input) (draws : ℕ) (jobs : List (Option Job)) (x : Result ⊤ AllocError) → OnOk x (new ≡ with_script r (with_main_frame r.script)) → OnErr x (new ≡ r)
-    → is_left r.script (past r) ≡ false → is_sent (sched (past r)).main_state ≡ false → IsAccepted (with_main_frame r.script) → IsLive r waits draws jobs → IsLive new waits draws jobs
-frame_told r new waits draws jobs (Ok u) e f left free accepted live = subst (λ (z : Run). IsLive z waits draws jobs) (sym e) (frame_more r waits draws jobs (none_left r.script (past r) left) free accepted live)
-frame_told r new waits draws jobs (Err refused) e f left free accepted live = same r new waits draws jobs f live
-
--- a main frame that was just told is left to be sent
+-- it is left to be sent
 pub one_left : (s : ScriptModel) (n : ℕ) (h : List Entry) → Legal s n h → nat_lt (counted sends h) (length (s.main ++ [] ∷ [])) ≡ true
 one_left s n h l = let few = sent_few s n h l in let more : length (s.main ++ [] ∷ []) ≡ suc (length s.main) = longer s.main [] in before (counted sends h) (length (s.main ++ [] ∷ [])) (omega (arith, few, more))
   where

@@ -1,7 +1,6 @@
 -- What the calls of a live compositor answer.
 use Rattle.std.specs.Prelude.{◌≡◌, ◌⊎◌, ◌≤◌, ◌<◌, ◌+◌, ℕ, Bool, true, false, List, length, Option, Some, None, is_some, Result, Ok, Err, ⊤}
 use Rattle.std.specs.declared.alloc.AllocError.{AllocError}
-use Rattle.geom.specs.Limits.{max_inputs, max_draws, max_frames}
 use Rattle.viz_scene.specs.Views.{SceneView}
 use Rattle.tile_raster.specs.declared.job.Job.{Job}
 use Rattle.tile_raster.specs.Images.{Image}
@@ -11,7 +10,7 @@ use Rattle.model_states.specs.Kinds.{may}
 use Rattle.model_history.specs.declared.event.Event.TheVariants as event
 use Rattle.model_history.specs.declared.input.Input.{Input}
 use Rattle.model_history.specs.declared.input.Input.TheVariants as input
-use Rattle.model_history.specs.Ranges.{input_in_range, draw_count}
+use Rattle.model_history.specs.Ranges.{input_in_range}
 use Rattle.model_history.specs.Frames.{is_left}
 use Rattle.model_history.specs.Legal.{sched}
 use Rattle.impl_log.specs.Runs.{past, now, with_entry}
@@ -52,42 +51,24 @@ told_of (Some y) l x = l
 abbrev pub told : LiveModel → Input → LiveModel
 told l x = told_of l.waits l x
 
--- the input is a draw
-abbrev pub is_draw : Input → Bool
-is_draw input.Draw = true
-is_draw _ = false
+-- how many inputs, and how many main frames, a run is told at most: each has a number of 32 bits
+abbrev pub most_told : ℕ
+most_told = 4294967294
 
-abbrev pub one_if : Bool → ℕ
-one_if true = 1
-one_if false = 0
-
--- a script of so many inputs, of which so many are draws, takes this one more
-pub record HasRoom (inputs draws : ℕ) (x : Input) : Type 0 where
-  pub few : inputs < max_inputs
-  pub few_draws : draws + one_if (is_draw x) ≤ max_draws
-
--- it has as many inputs as it may, or as many draws, if the input is one
-abbrev pub IsWorn : ℕ → ℕ → Input → Type 0
-IsWorn inputs draws x = (max_inputs ≤ inputs) ⊎ ((is_draw x ≡ true) × (max_draws ≤ draws))
-
-abbrev pub IsWornFor : List Input → Input → Type 0
-IsWornFor inputs x = IsWorn (length inputs) (draw_count inputs) x
-
--- the input was told, unless it waited; or another one waits, or the script takes no such input more, or memory was refused, and nothing has changed
+-- the input was told, unless it waited; or another one waits, or the script takes no input more, and nothing has changed
 abbrev pub Tells : LiveModel → Input → LiveModel → Result ⊤ LiveFault → Type 0
 Tells old x new (Ok u) = MayTell old.waits x × (new ≡ told old x) × (new.waits ≡ Some x)
 Tells old x new (Err fault.NotNow) = WaitsForOther old.waits x × (new ≡ old)
-Tells old x new (Err fault.OutOfRange) = ⊥
-Tells old x new (Err fault.Worn) = IsWornFor old.run.script.inputs x × (new ≡ old)
-Tells old x new (Err (fault.Memory e)) = new ≡ old
+Tells old x new (Err fault.Worn) = (most_told ≤ length old.run.script.inputs) × (new ≡ old)
+Tells old x new (Err _) = ⊥
 
--- the input was told, unless it waited, and was used by its one event. Else: its event may not come in this state, or another input waits; or a number of it is out of its range; or the script takes no such input more; or memory was refused, before the input was told or after that
+-- the input was told, unless it waited, and was used by its one event. Else: its event may not come in this state, or another input waits; or a number of it is out of its range; or the script takes no input more; or memory was refused, once the input was told
 abbrev pub UsesInput : LiveModel → Input → LiveModel → Result ⊤ LiveFault → Type 0
 UsesInput old x new (Ok u) = MayTell old.waits x × Uses (told old x) (kind_using x) new
 UsesInput old x new (Err fault.NotNow) = ((may (sched (past old.run)) (kind_using x) ≡ false) ⊎ WaitsForOther old.waits x) × (new ≡ old)
 UsesInput old x new (Err fault.OutOfRange) = (input_in_range 0 x ≡ false) × (new ≡ old)
-UsesInput old x new (Err fault.Worn) = IsWornFor old.run.script.inputs x × (new ≡ old)
-UsesInput old x new (Err (fault.Memory e)) = (new ≡ old) ⊎ (MayTell old.waits x × (new ≡ told old x))
+UsesInput old x new (Err fault.Worn) = (most_told ≤ length old.run.script.inputs) × (new ≡ old)
+UsesInput old x new (Err (fault.Memory e)) = MayTell old.waits x × (new ≡ told old x)
 
 -- the active page was drawn, and this is the scene; or nothing is active, and the draw was skipped; or neither may come, or memory was refused, and nothing has changed
 abbrev pub Draws : LiveModel → LiveModel → Result (Option SceneView) LiveFault → Type 0
@@ -106,26 +87,18 @@ with_frame_left false l = with_frame_told l
 abbrev pub has_frame : LiveModel → Bool
 has_frame l = is_left l.run.script (past l.run)
 
--- a main frame was told; or the script has as many as it may, or memory was refused, and nothing has changed
-abbrev pub TellsFrame : LiveModel → LiveModel → Result ⊤ LiveFault → Type 0
-TellsFrame old new (Ok u) = new ≡ with_frame_told old
-TellsFrame old new (Err fault.Worn) = (max_frames ≤ length old.run.script.main) × (new ≡ old)
-TellsFrame old new (Err (fault.Memory e)) = new ≡ old
-TellsFrame old new (Err _) = ⊥
-
--- a main frame is there to be sent; or the script has as many as it may, or memory was refused, and nothing has changed
+-- a main frame is there to be sent; or the script has as many as it may, and nothing has changed
 abbrev pub LeavesFrame : LiveModel → LiveModel → Result ⊤ LiveFault → Type 0
 LeavesFrame old new (Ok u) = new ≡ with_frame_left (has_frame old) old
-LeavesFrame old new (Err fault.Worn) = (has_frame old ≡ false) × (max_frames ≤ length old.run.script.main) × (new ≡ old)
-LeavesFrame old new (Err (fault.Memory e)) = new ≡ old
+LeavesFrame old new (Err fault.Worn) = (has_frame old ≡ false) × (most_told ≤ length old.run.script.main) × (new ≡ old)
 LeavesFrame old new (Err _) = ⊥
 
--- the next main frame was sent, which was told before unless one was left; or none may be sent in this state; or the script has as many as it may; or memory was refused, before the frame was told or after that
+-- the next main frame was sent, which was told before unless one was left; or none may be sent in this state; or the script has as many as it may; or memory was refused, once the frame was told
 abbrev pub Asks : LiveModel → LiveModel → Result ⊤ LiveFault → Type 0
 Asks old new (Ok u) = Enters (with_frame_left (has_frame old) old) kind.Send new
 Asks old new (Err fault.NotNow) = (may (sched (past old.run)) kind.Send ≡ false) × (new ≡ old)
-Asks old new (Err fault.Worn) = (has_frame old ≡ false) × (max_frames ≤ length old.run.script.main) × (new ≡ old)
-Asks old new (Err (fault.Memory e)) = (new ≡ old) ⊎ (new ≡ with_frame_left (has_frame old) old)
+Asks old new (Err fault.Worn) = (has_frame old ≡ false) × (most_told ≤ length old.run.script.main) × (new ≡ old)
+Asks old new (Err (fault.Memory e)) = new ≡ with_frame_left (has_frame old) old
 Asks old new (Err _) = ⊥
 
 -- at each slot a job is out

@@ -1,5 +1,6 @@
 -- What the calls of the main thread answer.
 use Rattle.std.specs.Prelude.{◌≡◌, ◌⊎◌, ℕ, ◌≤◌, ◌<◌, Bool, true, false, List, [], ◌∷◌, ◌++◌, length, Some, None, Result, Ok, Err, ⊤}
+use Rattle.std.specs.List.{list_any}
 use Rattle.page_layers.specs.declared.command.Command.{Command}
 use Rattle.page_layers.specs.declared.moves.Move.{Move}
 use Rattle.page_layers.specs.Pages.{Page}
@@ -10,7 +11,9 @@ use Rattle.model_history.specs.declared.event.Event.TheVariants as event
 use Rattle.model_history.specs.Frames.{changes, pulls_of}
 use Rattle.model_history.specs.Growth.{with_commands}
 use Rattle.model_history.specs.SameChanges.{SameChanges}
+use Rattle.model_history.specs.Scrolls.{scrolls_to}
 use Rattle.model_history.specs.Stamps.{changed_by, unchanged}
+use Rattle.impl_scroll.specs.Rows.{has_number}
 use Rattle.impl_core.specs.Handovers.{IsPreparedFor}
 use Rattle.impl_core.specs.Replies.{told_frame}
 use Rattle.impl_core.specs.declared.handed.Handed.{Handed}
@@ -82,9 +85,9 @@ pub record EndsFrame (old new : LiveModel) (e : Ended) : Type 0 where
   pub was_open : old.open_frame ≡ Some open_frame
   pub answers : Answers (record old { run = told_run old.run open_frame.commands; open_frame = None }) frame new e
 
--- memory was refused: nothing has changed, or the open main frame was given up, before or after its commands were told
+-- memory was refused: nothing has changed, or the open main frame was given up once its commands were told
 abbrev pub GaveUp : LiveModel → LiveModel → Type 0
-GaveUp old new = (new ≡ old) ⊎ ((frame : OpenModel) × (old.open_frame ≡ Some frame) × ((new ≡ record old { open_frame = None }) ⊎ (new ≡ record old { run = told_run old.run frame.commands; open_frame = None })))
+GaveUp old new = (new ≡ old) ⊎ ((frame : OpenModel) × (old.open_frame ≡ Some frame) × (new ≡ record old { run = told_run old.run frame.commands; open_frame = None }))
 
 -- the open main frame was told and answered; or none is open, or none is in flight, and nothing has changed; or memory was refused
 abbrev pub Ends : LiveModel → LiveModel → Result Ended MainFault → Type 0
@@ -101,12 +104,13 @@ EditsFrame old c new (Err fault.Worn) = (4294967295 ≤ length old.commands.item
 EditsFrame old c new (Err (fault.Memory e)) = (new.page ≡ old.page) × (new.commands.items ≡ old.commands.items)
 EditsFrame old c new (Err _) = ⊥
 
--- the page after these pulls and commands, and what the commands changed
+-- the page after these pulls and commands, what the commands changed, and the scrollers that they set outright
 pub record MadeOf (p : Page) (pulls : List Move) (cs : List Command) (handed : Handed) : Type 0 where
   pub page : handed.tree.value ≡ commanded cs (page_after_pulls pulls p)
   pub changes : SameChanges handed.changes (changed_by (page_after_pulls pulls p) cs unchanged)
+  pub outright : (sc : ℕ) → has_number handed.outright.items sc ≡ list_any (scrolls_to sc) cs
 
--- what the open main frame makes, with its number: the page after it, and what its commands changed
+-- what the open main frame makes, with its number: the page after it, what its commands changed, and the scrollers that they set outright
 pub record Makes (l : LiveModel) (frame : ℕ) (handed : Handed) : Type 0 where
   pub pulls : List Move
   pub in_flight : told_frame l.run ≡ Some (frame, pulls)
@@ -114,6 +118,7 @@ pub record Makes (l : LiveModel) (frame : ℕ) (handed : Handed) : Type 0 where
   pub was_open : l.open_frame ≡ Some open_frame
   pub page : handed.tree.value ≡ commanded open_frame.commands (page_after_pulls pulls l.main)
   pub changes : SameChanges handed.changes (changed_by (page_after_pulls pulls l.main) open_frame.commands unchanged)
+  pub outright : (sc : ℕ) → has_number handed.outright.items sc ≡ list_any (scrolls_to sc) open_frame.commands
 
 -- it was made; or none is open, or none is in flight; or memory was refused
 abbrev pub MakesFrame : LiveModel → Result (ℕ × Handed) MainFault → Type 0
@@ -127,4 +132,4 @@ pub record IsMade (l : LiveModel) (frame : ℕ) (handed : Handed) : Type 0 where
   pub closed : l.open_frame ≡ None
   pub pulls : List Move
   pub in_flight : told_frame l.run ≡ Some (frame, pulls)
-  pub prepared : IsPreparedFor l.run.script (pulls_of (past l.run)) frame handed.tree.value handed.changes
+  pub prepared : IsPreparedFor l.run.script (pulls_of (past l.run)) frame handed.tree.value handed.changes handed.outright.items

@@ -9,7 +9,7 @@ pub enum LiveFault {
     NotNow,
     /// A number is out of its range.
     OutOfRange,
-    /// The script has all the inputs, draws or main frames that it may have. Another object can go on with the page.
+    /// As many inputs or main frames were told as may be, 2^32 - 2. Another object can go on with the page.
     Worn,
     /// Memory ran out. The call may be made again.
     Memory(AllocError),

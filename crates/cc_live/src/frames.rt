@@ -1,43 +1,44 @@
 //! Main frames that are asked for, commits, activations and draws.
 
-ghost use Rattle.std.specs.Prelude.{◌≡◌, ◌-◌, length, slice_get, None, true, false, is_some, IfOk, IfSome, OnOk, OnErr};
+ghost use Rattle.std.specs.Prelude.{◌≡◌, ◌-◌, ◌<◌, ◌≤◌, length, slice_get, None, true, false, is_some, IsTrue, IfOk, IfSome, OnOk, OnErr};
 ghost use Rattle.model_states.specs.declared.kind.Kind.TheVariants as kind;
 ghost use Rattle.model_states.specs.Kinds.{may, is_sent};
 ghost use Rattle.model_history.specs.Legal.{sched};
 ghost use Rattle.impl_log.specs.Runs.{now, past, Plays};
-ghost use Rattle.cc_live.specs.Lives.{Enters};
+ghost use Rattle.cc_live.specs.Lives.{Enters, with_frame_told};
 ghost use Rattle.cc_live.specs.Calls.{Draws, Asks};
 ghost use Rattle.cc_live.specs.Calls as calls;
 
 use crate::fault::LiveFault;
-use crate::inputs::play_next;
+use crate::inputs::{MOST_TOLD, play_next};
 use crate::live::Live;
 use model_history::Event;
 use model_states::Kind;
 use std::alloc::AllocError;
 use viz_scene::Scene;
 
-// How many main frames a script has at most.
-const MOST_FRAMES: u32 = 4_096;
-
 impl Live {
-    // Tells the run that a main frame comes, while none is left.
+    // Tells the run that a main frame comes, while none is left and the script has room for one.
     #[tactic(auto, using(crate::proofs::ToldRuns::one_left))]
-    fn tell_frame(&mut self) -> Result<(), LiveFault>
+    fn tell_frame(&mut self)
         requires none { calls.has_frame self.old ≡ false }
         requires free { is_sent (sched (past self.old.run)).main_state ≡ false }
-        ensures tells { calls.TellsFrame self.old self.new result }
-        ensures left { OnOk result (calls.has_frame self.new ≡ true) }
-        ensures entries { self.new.run.entries ≡ self.old.run.entries }
+        requires room { length self.old.run.script.main < calls.most_told }
+        ensures told { self.new ≡ with_frame_told self.old }
+        ensures left { calls.has_frame self.new ≡ true }
     {
         self.core.is_legal();
-        if self.core.progress().sends >= MOST_FRAMES {
-            return Err(LiveFault::Worn);
-        }
-        match self.core.add_frame(self.alloc) {
-            Ok(()) => Ok(()),
-            Err(refused) => Err(LiveFault::Memory(refused)),
-        }
+        self.core.add_frame(self.alloc);
+    }
+
+    // Whether the script takes another main frame, while none is left.
+    fn has_room_for_frame(&self) -> bool
+        requires { calls.has_frame self.now ≡ false }
+        ensures room { IsTrue result → length self.now.run.script.main < calls.most_told }
+        ensures worn { result ≡ false → calls.most_told ≤ length self.now.run.script.main }
+    {
+        self.core.is_legal();
+        self.core.progress().sends < MOST_TOLD
     }
 
     // Tells the run that a main frame comes, unless one is left.
@@ -50,7 +51,12 @@ impl Live {
         if self.core.is_left() {
             return Ok(());
         }
-        self.tell_frame()
+        if self.has_room_for_frame() {
+            self.tell_frame();
+            Ok(())
+        } else {
+            Err(LiveFault::Worn)
+        }
     }
 
     // Sends the main frame that is left.
@@ -65,8 +71,7 @@ impl Live {
 
     /// Asks the main thread for its next main frame, and tells it what was scrolled since it was last asked.
     /// `NotNow` comes if no impl frame is open, if it has asked already or if a main frame is in flight, `Worn`
-    /// after 4,096 main frames. If memory is refused, all is as it was but for a main frame that may have been
-    /// told, which the next call sends.
+    /// after 2^32 - 2 main frames. If memory is refused, the main frame is told, and the next call sends it.
     #[tactic(auto, using(crate::proofs::MainSides::send_free))]
     pub fn ask(&mut self) -> Result<(), LiveFault>
         ensures { Asks self.old self.new result }

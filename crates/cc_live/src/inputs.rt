@@ -1,14 +1,14 @@
 //! The inputs that a host tells: ticks, scrolls and wheels.
 
-ghost use Rattle.std.specs.Prelude.{◌≡◌, ◌+◌, ◌≤◌, Some, None, true, false, is_some, length, IsTrue, OnOk, OnErr};
+ghost use Rattle.std.specs.Prelude.{◌≡◌, ◌<◌, ◌≤◌, Some, None, true, false, is_some, length, IsTrue, OnOk, OnErr};
 ghost use Rattle.model_states.specs.Kinds.{may};
 ghost use Rattle.model_history.specs.Legal.{Legal, sched};
-ghost use Rattle.model_history.specs.Ranges.{input_in_range, draw_count};
+ghost use Rattle.model_history.specs.Ranges.{input_in_range};
 ghost use Rattle.model_history.specs.declared.input.Input.TheVariants as input;
 ghost use Rattle.impl_core.specs.Replies.{is_own};
 ghost use Rattle.impl_log.specs.Runs.{now, past, Entered};
 ghost use Rattle.cc_live.specs.Lives.{Uses, with_told};
-ghost use Rattle.cc_live.specs.Calls.{UsesInput, Tells, HasRoom, IsWorn, IsWornFor, kind_using, is_for_host, is_draw, one_if};
+ghost use Rattle.cc_live.specs.Calls.{UsesInput, Tells, most_told, kind_using, is_for_host};
 
 use crate::fault::LiveFault;
 use crate::live::Live;
@@ -17,10 +17,8 @@ use model_history::Input;
 use model_states::Kind;
 use std::alloc::AllocError;
 
-// How many inputs a script has at most, and how many of them are draws.
-const MOST_INPUTS: u32 = 65_536;
-
-const MOST_DRAWS: u32 = 4_096;
+/// How many inputs, and how many main frames, are told at most.
+pub(crate) const MOST_TOLD: u32 = 4_294_967_294;
 
 // The kind of the event that uses an input.
 fn kind_of(input: Input) -> Kind
@@ -35,48 +33,12 @@ fn kind_of(input: Input) -> Kind
     }
 }
 
-// Whether an input is a draw.
-fn asks_draw(input: Input) -> bool
-    ensures { result ≡ is_draw input }
-{
-    match input {
-        Input::Draw => true,
-        _ => false,
-    }
-}
-
 // Whether two inputs are one.
 fn are_same(a: Input, b: Input) -> bool
     ensures same { IsTrue result → a ≡ b }
     ensures equal { a ≡ b → IsTrue result }
 {
     a == b
-}
-
-// Whether a script of so many inputs, of which so many are draws, takes another one.
-fn has_room(inputs: u32, draws: u32, input: Input) -> bool
-    requires { draws ≤ 4096 }
-    ensures room { IsTrue result → HasRoom inputs draws input }
-    ensures worn { result ≡ false → IsWorn inputs draws input }
-{
-    if inputs >= MOST_INPUTS {
-        return false;
-    }
-    if !asks_draw(input) {
-        return true;
-    }
-    if draws >= MOST_DRAWS {
-        return false;
-    }
-    true
-}
-
-// How many draws there are with an input more.
-fn draws_after(draws: u32, input: Input) -> u32
-    requires { draws + one_if (is_draw input) ≤ 4096 }
-    ensures { result ≡ draws + one_if (is_draw input) }
-{
-    if asks_draw(input) { draws + 1 } else { draws }
 }
 
 // Plays an event of the compositor that may come now.
@@ -99,30 +61,25 @@ pub(crate) fn play_next(core: &mut Core, kind: Kind) -> Result<(), AllocError>
 
 impl Live {
     // Whether the script takes another input, while none waits.
-    fn has_room_for(&self, input: Input) -> bool
+    fn has_room(&self) -> bool
         requires { self.now.waits ≡ None }
-        ensures room { IsTrue result → HasRoom (length self.now.run.script.inputs) (draw_count self.now.run.script.inputs) input }
-        ensures worn { result ≡ false → IsWornFor self.now.run.script.inputs input }
+        ensures room { IsTrue result → length self.now.run.script.inputs < most_told }
+        ensures worn { result ≡ false → most_told ≤ length self.now.run.script.inputs }
     {
-        self.core.is_legal();
-        has_room(self.core.progress().inputs, self.draws, input)
+        self.core.progress().inputs < MOST_TOLD
     }
 
     // Tells the run an input, while none waits and the script has room for it.
-    fn add_told(&mut self, input: Input) -> Result<(), AllocError>
+    fn add_told(&mut self, input: Input)
         requires host { is_for_host input ≡ true }
         requires fits { input_in_range 0 input ≡ true }
         requires free { self.old.waits ≡ None }
-        requires room { HasRoom (length self.old.run.script.inputs) (draw_count self.old.run.script.inputs) input }
-        ensures ok { OnOk result (self.new ≡ with_told self.old input) }
-        ensures err { OnErr result (self.new ≡ self.old) }
+        requires room { length self.old.run.script.inputs < most_told }
+        ensures { self.new ≡ with_told self.old input }
     {
         self.core.is_legal();
-        let draws = draws_after(self.draws, input);
-        self.core.add_input(input)?;
+        self.core.add_input(input);
         self.waits = Some(input);
-        self.draws = draws;
-        Ok(())
     }
 
     // Tells the run an input, while none waits.
@@ -133,12 +90,11 @@ impl Live {
         ensures tells { Tells self.old input self.new result }
         ensures entries { self.new.run.entries ≡ self.old.run.entries }
     {
-        if !self.has_room_for(input) {
-            return Err(LiveFault::Worn);
-        }
-        match self.add_told(input) {
-            Ok(()) => Ok(()),
-            Err(refused) => Err(LiveFault::Memory(refused)),
+        if self.has_room() {
+            self.add_told(input);
+            Ok(())
+        } else {
+            Err(LiveFault::Worn)
         }
     }
 
@@ -204,10 +160,10 @@ impl Live {
     }
 
     /// Begins an impl frame, which is to be drawn. `NotNow` comes if one is open or another input waits, `Worn` after
-    /// 4,096 draws or 65,536 inputs.
+    /// 2^32 - 2 inputs.
     ///
-    /// If memory is refused, the tick may have been told: it waits then, and the call is to be made again before any
-    /// other input is told.
+    /// If memory is refused, the tick is told: it waits, and the call is to be made again before any other input is
+    /// told.
     pub fn tick(&mut self) -> Result<(), LiveFault>
         ensures { UsesInput self.old input.Draw self.new result }
     {
@@ -217,10 +173,10 @@ impl Live {
     /// Scrolls a scroller of the active page by `dx` and `dy` pixels, as far as its range allows: the newest event
     /// then says how far. `OutOfRange` comes unless the scroller is 1 to 65535 and both amounts are at most 1,048,576
     /// either way, `NotNow` if an impl frame was drawn and is not finished or another input waits, `Worn` after
-    /// 65,536 inputs.
+    /// 2^32 - 2 inputs.
     ///
-    /// If memory is refused, the scroll may have been told: it waits then, and the call is to be made again before
-    /// any other input is told.
+    /// If memory is refused, the scroll is told: it waits, and the call is to be made again before any other input is
+    /// told.
     pub fn scroll(&mut self, scroller: u32, dx: i32, dy: i32) -> Result<(), LiveFault>
         ensures { UsesInput self.old (input.Scroll scroller dx dy) self.new result }
     {

@@ -2,7 +2,7 @@
 
 ghost use Rattle.std.specs.Prelude.{◌≡◌, ◌≤◌, ◌<◌, ℕ, None, true, length, slice_index_or, IfOk};
 ghost use Rattle.page_layers.specs.Axes.{across, down};
-ghost use Rattle.model_history.specs.Accepted.{IsAccepted};
+ghost use Rattle.model_history.specs.Accepted.{IsPlayable};
 ghost use Rattle.model_history.specs.Legal as legal;
 ghost use Rattle.model_history.specs.Ranges.{is_in_ranges};
 ghost use Rattle.model_history.specs.Values as values;
@@ -15,7 +15,7 @@ use crate::open_frame::OpenFrame;
 use crate::settings::Settings;
 use impl_core::Core;
 use impl_log::Progress;
-use model_history::{Input, Script, ScriptError, ScriptParts};
+use model_history::{Input, Plan, Script, ScriptError, ScriptParts};
 use model_states::Synced;
 use page_layers::LayerTree;
 use std::alloc::{AllocError, Global};
@@ -32,8 +32,6 @@ pub struct Live {
     pub(crate) core: Core,
     // The input that was told and is not used yet.
     pub(crate) waits: Option<Input>,
-    // How many draws were told.
-    pub(crate) draws: u32,
     // For each slot the job that is out.
     pub(crate) jobs: Vec<Option<Job>>,
     // The page after the main frames that were answered, which the last commit shares.
@@ -50,7 +48,7 @@ impl Model for Live {
 
     ghost view = { λ l. record { run = l.core; waits = l.waits; jobs = l.jobs.items; main = l.main.value; open_frame = open_of l.open_frame } };
 
-    ghost invariant = { λ l. IsLive l.core l.waits l.draws l.jobs.items × IsMainSide l.core l.main.value (open_of l.open_frame) };
+    ghost invariant = { λ l. IsLive l.core l.waits l.jobs.items × IsMainSide l.core l.main.value (open_of l.open_frame) };
 }
 
 // Written out, since a derived drop is proved anew, field by field, in each function that lets one go.
@@ -60,7 +58,6 @@ impl Drop for Live {
             alloc: _,
             core: _,
             waits: _,
-            draws: _,
             jobs: _,
             main: _,
             open_frame: _,
@@ -120,25 +117,23 @@ impl Live {
         let workers = settings.workers;
         let script = first_script_of(alloc, settings)?;
         let main = Arc::new(alloc, script.first_page(alloc))?;
-        let script = Arc::new(alloc, script)?;
-        let core = Core::new(alloc, script, workers)?;
+        let core = Core::of_plan(alloc, Plan::of(&script), workers)?;
         let jobs = free_slots(alloc, workers)?;
         Ok(Live {
             alloc,
             core,
             waits: None,
-            draws: 0,
             jobs,
             main,
             open_frame: None,
         })
     }
 
-    /// The history is legal for the script that was told so far, which is accepted. A law that does nothing when it
+    /// The history is legal for the script that was told so far, which can be played. A law that does nothing when it
     /// runs.
     pub fn is_legal(&self)
         ensures legal { legal.Legal self.now.run.script self.now.run.workers (past self.now.run) }
-        ensures accepted { IsAccepted self.now.run.script }
+        ensures playable { IsPlayable self.now.run.script }
     {
         self.core.is_legal();
     }

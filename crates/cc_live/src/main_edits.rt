@@ -60,7 +60,7 @@ pub(crate) fn made_of(
     match apply_frame(alloc, &mut after, pulls, commands) {
         Ok(changes) => {
             let tree = Arc::new(alloc, after)?;
-            Ok(Handed { tree, changes })
+            Handed::new(alloc, tree, changes, commands)
         }
         Err(EditError::Memory(refused)) => Err(refused),
         Err(EditError::Refused(_)) => unreachable!(),

@@ -2,7 +2,7 @@
 
 ghost use Rattle.std.specs.Prelude.{◌≡◌, true, false, Some, None, is_some, IfOk, OnOk, OnErr};
 ghost use Rattle.model_history.specs.Ranges.{command_in_range};
-ghost use Rattle.model_history.specs.Frames.{changes, pulls_of};
+ghost use Rattle.model_history.specs.Frames.{changes, commands_of, pulls_of};
 ghost use Rattle.model_history.specs.declared.event.Event.TheVariants as event;
 ghost use Rattle.impl_log.specs.Runs.{past};
 ghost use Rattle.cc_live.specs.MainSide.{Opens, OpensPage, Edits, Ends, Answers, AnswersBy, IsMade, Makes, MakesFrame, told_run};
@@ -103,39 +103,40 @@ impl Live {
         }
     }
 
-    // Tells the run the commands of the open main frame, which is given up if memory is refused.
-    fn tell_commands(&mut self, frame: u32, handed: &Handed) -> Result<(), AllocError>
+    // Tells the run the commands of the open main frame, which is closed, and answers them.
+    fn tell_commands(&mut self, frame: u32, handed: &Handed) -> Vec<Command>
         requires { Makes self.old frame handed.now }
-        ensures ok { OnOk result ((edited : OpenModel) → self.old.open_frame ≡ Some edited → self.new ≡ record self.old { run = told_run self.old.run edited.commands; open_frame = None }) }
-        ensures made { OnOk result (IsMade self.new frame handed.now) }
-        ensures err { OnErr result (self.new ≡ record self.old { open_frame = None }) }
+        ensures told { (edited : OpenModel) → self.old.open_frame ≡ Some edited → self.new ≡ record self.old { run = told_run self.old.run edited.commands; open_frame = None } }
+        ensures made { IsMade self.new frame handed.now }
+        ensures commands { commands_of self.new.run.script frame ≡ result.items }
     {
         // The contract alone speaks of what was made.
         let _ = frame;
         let _ = handed;
         self.core.is_legal();
-        self.core.script().is_accepted();
         match self.open_frame.take() {
             None => unreachable!(),
-            Some(edited) => self.core.end_frame(edited.commands),
+            Some(edited) => {
+                self.core.end_frame(&edited.commands);
+                edited.commands
+            }
         }
     }
 
-    // Whether the main frame in flight changes something, by the script.
-    fn changes(&self, frame: u32, handed: &Handed) -> bool
-        requires { IsMade self.now frame handed.now }
+    // Whether the main frame in flight, which has these commands, changes something.
+    fn changes(&self, frame: u32, handed: &Handed, commands: &[Command]) -> bool
+        requires made { IsMade self.now frame handed.now }
+        requires commands { commands_of self.now.run.script frame ≡ commands.now }
         ensures { result ≡ changes self.now.run.script (pulls_of (past self.now.run)) frame }
     {
+        // The contract alone speaks of its number.
+        let _ = frame;
         self.core.is_legal();
         match self.core.in_flight() {
             None => unreachable!(),
-            Some((_, pulls)) => changes_something(
-                self.core.script(),
-                frame,
-                pulls.as_slice(),
-                &self.main,
-                &handed.tree,
-            ),
+            Some((_, pulls)) => {
+                changes_something(commands, pulls.as_slice(), &self.main, &handed.tree)
+            }
         }
     }
 
@@ -170,13 +171,19 @@ impl Live {
         Ok(())
     }
 
-    // Answers the main frame in flight, whose commands were told.
-    fn answer(&mut self, frame: u32, handed: Handed) -> Result<Ended, AllocError>
-        requires { IsMade self.old frame handed }
+    // Answers the main frame in flight, which was told these commands.
+    fn answer(
+        &mut self,
+        frame: u32,
+        handed: Handed,
+        commands: &[Command],
+    ) -> Result<Ended, AllocError>
+        requires made { IsMade self.old frame handed }
+        requires commands { commands_of self.old.run.script frame ≡ commands.now }
         ensures ok { IfOk result (λ ended. Answers self.old frame self.new ended) }
         ensures err { OnErr result (self.new ≡ self.old) }
     {
-        if self.changes(frame, &handed) {
+        if self.changes(frame, &handed, commands) {
             self.hand_over(frame, handed)?;
             Ok(Ended::Ready)
         } else {
@@ -198,10 +205,8 @@ impl Live {
             Ok(made) => made,
             Err(fault) => return Err(fault),
         };
-        if let Err(refused) = self.tell_commands(frame, &handed) {
-            return Err(MainFault::Memory(refused));
-        }
-        match self.answer(frame, handed) {
+        let commands = self.tell_commands(frame, &handed);
+        match self.answer(frame, handed, commands.as_slice()) {
             Ok(ended) => Ok(ended),
             Err(refused) => Err(MainFault::Memory(refused)),
         }

@@ -23,7 +23,7 @@ use crate::visible::visible_of;
 use geom::{Keys, TileKey};
 use impl_ranks::{SeenTree, tile};
 use impl_tiles::TileManager;
-use model_history::Script;
+use model_history::Plan;
 use std::alloc::{AllocError, Global};
 use tile_priority::{Rank, ReadyTile};
 
@@ -49,16 +49,16 @@ fn push_rank(ranks: &mut Vec<Rank>, rank: Option<Rank>) -> Result<(), AllocError
 // The ranks of these keys. An error means out of memory.
 fn ranks_of(
     alloc: Global,
-    script: &Script,
+    plan: &Plan,
     active: Option<&SeenTree<'_>>,
     pending: Option<&SeenTree<'_>>,
     keys: &[TileKey],
 ) -> Result<Vec<Rank>, AllocError>
-    ensures { IfOk result (λ ranks. (a p : Tree) → IsSeenWhere a (option_copied active.entry) → IsSeenWhere p (option_copied pending.entry) → ranks.items ≡ filter_map (rank_in_both script.now a p) keys.now) }
+    ensures { IfOk result (λ ranks. (a p : Tree) → IsSeenWhere a (option_copied active.entry) → IsSeenWhere p (option_copied pending.entry) → ranks.items ≡ filter_map (rank_in_both plan.now a p) keys.now) }
 {
     let mut ranks = Vec::with_capacity(alloc, keys.len())?;
     for key in keys {
-        let one = tile(script, active, pending, *key, false);
+        let one = tile(plan, active, pending, *key, false);
         push_rank(&mut ranks, one.rank)?;
     }
     Ok(ranks)
@@ -68,17 +68,17 @@ fn ranks_of(
 // the pending tree alone, which are among these. An error means out of memory.
 fn first_keys(
     alloc: Global,
-    script: &Script,
+    plan: &Plan,
     active: Option<&SeenTree<'_>>,
     manager: &TileManager,
     shown: &Keys,
     needed: &Keys,
 ) -> Result<Keys, AllocError>
-    ensures { IfOk result (λ keys. (a : Tree) → IsSeenWhere a (option_copied active.entry) → keys ≡ spec.first_keys script.now a manager.now.store shown.now needed.now) }
+    ensures { IfOk result (λ keys. (a : Tree) → IsSeenWhere a (option_copied active.entry) → keys ≡ spec.first_keys plan.now a manager.now.store shown.now needed.now) }
 {
     let mut keys = manager.missing(alloc, shown)?;
     let missing = manager.missing(alloc, needed)?;
-    push_hidden_in(script, active, missing.as_slice(), &mut keys)?;
+    push_hidden_in(plan, active, missing.as_slice(), &mut keys)?;
     Ok(keys)
 }
 
@@ -100,22 +100,22 @@ fn ready_beside(
 /// are seen. An error means out of memory.
 pub fn foreseen_of(
     alloc: Global,
-    script: &Script,
+    plan: &Plan,
     active: Option<&SeenTree<'_>>,
     pending: Option<&SeenTree<'_>>,
     manager: &TileManager,
 ) -> Result<Foreseen, AllocError>
-    requires { RanksNow script.now (option_copied active) (option_copied pending) }
+    requires { RanksNow plan.now (option_copied active) (option_copied pending) }
     ensures once { IfOk result (λ all. EachKeyOnce all.wanted.items all.hidden.items) }
     ensures shown { IfOk result (λ all. (r : Ranking) → In r all.wanted.items → is_visible_rank (Some r) ≡ true) }
-    ensures visible { IfOk result (λ all. (s : ScriptModel) (workers : ℕ) (h : List Entry) → script.now ≡ s → Legal s workers h → Manages s h manager.now → IsSeenWhere (active_tree s h) (option_copied active.entry) → IsSeenWhere (pending_tree s h) (option_copied pending.entry) → AreVisibleAt s h all.wanted.items all.hidden.items) }
+    ensures visible { IfOk result (λ all. (s : ScriptModel) (workers : ℕ) (h : List Entry) → plan.now ≡ s → Legal s workers h → Manages s h manager.now → IsSeenWhere (active_tree s h) (option_copied active.entry) → IsSeenWhere (pending_tree s h) (option_copied pending.entry) → AreVisibleAt s h all.wanted.items all.hidden.items) }
 {
-    script.is_accepted();
+    plan.is_playable();
     let shown = visible_of(alloc, active)?;
     let needed = visible_of(alloc, pending)?;
-    let first = first_keys(alloc, script, active, manager, &shown, &needed)?;
-    let wanted = ranks_of(alloc, script, active, pending, first.as_slice())?;
+    let first = first_keys(alloc, plan, active, manager, &shown, &needed)?;
+    let wanted = ranks_of(alloc, plan, active, pending, first.as_slice())?;
     let left = ready_beside(alloc, manager, &shown, &needed)?;
-    let hidden = hidden_tiles(alloc, script, active, pending, manager, left.as_slice())?;
+    let hidden = hidden_tiles(alloc, plan, active, pending, manager, left.as_slice())?;
     Ok(Foreseen { wanted, hidden })
 }

@@ -14,15 +14,15 @@ ghost use Rattle.impl_tiles.specs.Visible.{is_hidden};
 use geom::{Keys, TileKey};
 use impl_ranks::{SeenTree, tile};
 use impl_tiles::{TileManager, is_next};
-use model_history::Script;
+use model_history::Plan;
 use std::alloc::{AllocError, Global};
 use tile_priority::{ReadyTile, is_visible_rank};
 
 // Whether a key is that of a visible tile of a tree, which may be missing.
-fn is_shown_in(script: &Script, tree: Option<&SeenTree<'_>>, key: TileKey) -> bool
-    ensures { (t : Tree) → IsSeenWhere t (option_copied tree.entry) → result ≡ choosing.is_visible_rank (rank_in script.now side.Active t key) }
+fn is_shown_in(plan: &Plan, tree: Option<&SeenTree<'_>>, key: TileKey) -> bool
+    ensures { (t : Tree) → IsSeenWhere t (option_copied tree.entry) → result ≡ choosing.is_visible_rank (rank_in plan.now side.Active t key) }
 {
-    let one = tile(script, tree, None, key, false);
+    let one = tile(plan, tree, None, key, false);
     is_visible_rank(one.rank)
 }
 
@@ -41,15 +41,15 @@ fn push_where(keys: &mut Keys, key: TileKey, is: bool) -> Result<(), AllocError>
 /// Puts those of the keys after others that are not visible in a tree, which may be missing. An error means out of
 /// memory.
 pub(crate) fn push_hidden_in(
-    script: &Script,
+    plan: &Plan,
     tree: Option<&SeenTree<'_>>,
     keys: &[TileKey],
     hidden: &mut Keys,
 ) -> Result<(), AllocError>
-    ensures { OnOk result ((t : Tree) → IsSeenWhere t (option_copied tree.entry) → hidden.new ≡ hidden.old ++ filter (λ q. not (choosing.is_visible_rank (rank_in script.now side.Active t q))) keys.now) }
+    ensures { OnOk result ((t : Tree) → IsSeenWhere t (option_copied tree.entry) → hidden.new ≡ hidden.old ++ filter (λ q. not (choosing.is_visible_rank (rank_in plan.now side.Active t q))) keys.now) }
 {
     for key in keys {
-        push_where(hidden, *key, !is_shown_in(script, tree, *key))?;
+        push_where(hidden, *key, !is_shown_in(plan, tree, *key))?;
     }
     Ok(())
 }
@@ -84,19 +84,19 @@ fn push_hidden(tiles: &mut Vec<ReadyTile>, tile: ReadyTile) -> Result<(), AllocE
 /// The ready tiles of these keys, which stand in key order, that are not visible. An error means out of memory.
 pub(crate) fn hidden_tiles(
     alloc: Global,
-    script: &Script,
+    plan: &Plan,
     active: Option<&SeenTree<'_>>,
     pending: Option<&SeenTree<'_>>,
     manager: &TileManager,
     keys: &[TileKey],
 ) -> Result<Vec<ReadyTile>, AllocError>
-    ensures { IfOk result (λ tiles. (a p : Tree) → IsSeenWhere a (option_copied active.entry) → IsSeenWhere p (option_copied pending.entry) → tiles.items ≡ filter is_hidden (map (tile_in_both script.now a p manager.now.pinned) keys.now)) }
+    ensures { IfOk result (λ tiles. (a p : Tree) → IsSeenWhere a (option_copied active.entry) → IsSeenWhere p (option_copied pending.entry) → tiles.items ≡ filter is_hidden (map (tile_in_both plan.now a p manager.now.pinned) keys.now)) }
 {
     let mut tiles = Vec::new(alloc);
     let mut near = 0;
     for key in keys {
         let pinned = manager.pinned_near(&mut near, *key);
-        push_hidden(&mut tiles, tile(script, active, pending, *key, pinned))?;
+        push_hidden(&mut tiles, tile(plan, active, pending, *key, pinned))?;
     }
     Ok(tiles)
 }

@@ -10,20 +10,20 @@ ghost use Rattle.impl_choice.specs.Rebuilds.{RanksNow};
 
 use impl_ranks::{SeenTree, ranked};
 use impl_tiles::Ranks;
-use model_history::Script;
+use model_history::Plan;
 use std::alloc::{AllocError, Global};
 
 /// The ranks for a past, of both trees as they are seen then: for `TileManager::rerank`. An error means out
 /// of memory.
 pub fn reranked(
     alloc: Global,
-    script: &Script,
+    plan: &Plan,
     active: Option<&SeenTree<'_>>,
     pending: Option<&SeenTree<'_>>,
 ) -> Result<Ranks, AllocError>
-    requires { RanksNow script.now (option_copied active) (option_copied pending) }
-    ensures { IfOk result (λ ranks. (s : ScriptModel) (h : List Entry) → script.now ≡ s → IsSeenWhere (active_tree s h) (option_copied active.entry) → IsSeenWhere (pending_tree s h) (option_copied pending.entry) → AreRanksAt s h ranks) }
+    requires { RanksNow plan.now (option_copied active) (option_copied pending) }
+    ensures { IfOk result (λ ranks. (s : ScriptModel) (h : List Entry) → plan.now ≡ s → IsSeenWhere (active_tree s h) (option_copied active.entry) → IsSeenWhere (pending_tree s h) (option_copied pending.entry) → AreRanksAt s h ranks) }
 {
-    let ranks = ranked(alloc, script, active, pending)?;
-    Ok(Ranks::new(ranks, script.budget()))
+    let ranks = ranked(alloc, plan, active, pending)?;
+    Ok(Ranks::new(ranks, plan.budget()))
 }

@@ -92,13 +92,13 @@ send_core s n h a k ms told kept host legal core hosts holds is = record {
 }
 
 -- a core whose frame is ready
-pub ready_core : (s : ScriptModel) (n : ℕ) (h : List Entry) (k : ℕ) (d : Handed) (kept : Kept) → Legal s n (entry 1 (event.Ready k) ∷ h) → IsCore s h kept → IsPreparedFor s (pulls_of h) k d.tree.value d.changes
+pub ready_core : (s : ScriptModel) (n : ℕ) (h : List Entry) (k : ℕ) (d : Handed) (kept : Kept) → Legal s n (entry 1 (event.Ready k) ∷ h) → IsCore s h kept → IsPreparedFor s (pulls_of h) k d.tree.value d.changes d.outright.items
     → IsCore s (entry 1 (event.Ready k) ∷ h) (record { host = kept.host; tiles = kept.tiles; told = kept.told; prepared = Some d; required = kept.required; drawn = kept.drawn })
 ready_core s n h k d kept legal core is = record {
   host = core.host;
   tiles = core.tiles;
   told = λ t j e. absurd cc;
-  prepared = λ t j e. let last = (at_ready s n h 1 k legal.1).last in let same : k ≡ j = cc in subst (λ i. IsPreparedFor s (pulls_of h) i d.tree.value d.changes) same is;
+  prepared = λ t j e. let last = (at_ready s n h 1 k legal.1).last in let same : k ≡ j = cc in subst (λ i. IsPreparedFor s (pulls_of h) i d.tree.value d.changes d.outright.items) same is;
   required = core.required;
   drawn = core.drawn;
 }

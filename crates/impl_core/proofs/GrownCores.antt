@@ -1,6 +1,6 @@
 -- A core keeps what it keeps, once its script has grown.
-use Rattle.std.proofs.Common.{◌≡◌, ◌⊎◌, inl, inr, ℕ, suc, ◌≤◌, Bool, true, false, is_some, List, [], ◌∷◌, ◌++◌, filter_map, Option, Some, None, Result, Ok, Err, refl, sym, ◌∙◌, ap, subst, arith}
-use Rattle.std.specs.Prelude.{OnOk, OnErr}
+use Rattle.std.proofs.Common.{◌≡◌, ◌⊎◌, inl, inr, ℕ, suc, ◌≤◌, Bool, true, false, is_some, List, [], ◌∷◌, ◌++◌, filter_map, Option, Some, None, refl, sym, ◌∙◌, ap, subst, arith}
+use Rattle.std.specs.List.{list_any}
 use Rattle.geom.specs.declared.rect.Point.{Point}
 use Rattle.geom.specs.declared.tile.TileKey.{TileKey}
 use Rattle.geom.specs.KeyLists.{has_key}
@@ -21,7 +21,7 @@ use Rattle.model_history.specs.EventFields.{answers}
 use Rattle.model_history.specs.Scans.{counted}
 use Rattle.model_history.specs.Frames.{pulls_of, active, pending, up_to, active_page}
 use Rattle.model_history.specs.SameChanges.{SameChanges}
-use Rattle.model_history.specs.Scrolls.{active_offsets, pending_offsets}
+use Rattle.model_history.specs.Scrolls.{scrolls_to, active_offsets, pending_offsets}
 use Rattle.model_history.specs.Values.{values}
 use Rattle.model_history.specs.Tiles.{active_tree, pending_tree, keys_of, live_keys, made_so_far, ready, missing_visible}
 use Rattle.model_history.specs.Legal.{sched, Legal}
@@ -53,7 +53,7 @@ ready_not_sent main_state.Sent h = cc
 ready_not_sent main_state.ReadyToCommit h = refl
 
 -- a script that is another in what the past has not read
-module _ (s : ScriptModel) (n : ℕ) (h : List Entry) (main : List (List Command)) (inputs : List Input) (legal : Legal s n h) (tells : TellsAlike s (with_main_and_inputs s main inputs) h) (playable : IsPlayable (with_main_and_inputs s main inputs)) where
+module _ (s : ScriptModel) (n : ℕ) (h : List Entry) (main : List (List Command)) (inputs : List Input) (legal : Legal s n h) (reads : ReadsAlike s h main inputs) (tells : TellsAlike s (with_main_and_inputs s main inputs) h) (playable : IsPlayable (with_main_and_inputs s main inputs)) where
   abbrev t : ScriptModel
   t = with_main_and_inputs s main inputs
 
@@ -135,6 +135,7 @@ module _ (s : ScriptModel) (n : ℕ) (h : List Entry) (main : List (List Command
   prepared_stays (Some handed) k l i = record {
     page = i.page ∙ sym (tells.pages (suc k) l);
     changes = subst (λ (d : Changed). SameChanges handed.changes d) (sym (tells.frame_changes k (omega (arith, l)))) i.changes;
+    outright_are = λ sc. i.outright_are sc ∙ sym (ap (λ (cs : List Command). list_any (scrolls_to sc) cs) (reads.answered k (omega (arith, l))));
   }
 
   drawing_stays : (d : Drawing) → ShowsPage s (active_page s h) (active_offsets s h) (missing_visible s h) d → ShowsPage t (active_page t h) (active_offsets t h) (missing_visible t h) d
@@ -160,36 +161,35 @@ module _ (s : ScriptModel) (n : ℕ) (h : List Entry) (main : List (List Command
     drawn = drawn_stays kept.drawn i.drawn;
   }
 
--- ---- calls that make the script grow, or leave the run as it was
+-- ---- calls that make the script grow
 
 -- what is kept, for the run of this script
 abbrev KeepsFor : Kept → ScriptModel → Run → Type 0
 KeepsFor kept s r = IsCore s (past r) kept
 
-grown : {X E : Type 0} (r : Result X E) (old new : Run) (t : ScriptModel) (kept : Kept) → OnOk r (new ≡ with_script old t) → OnErr r (new ≡ old) → KeepsFor kept old.script old → KeepsFor kept t old → KeepsFor kept new.script new
-grown (Ok x) old new t kept ok err before after = subst (λ (z : Run). KeepsFor kept z.script z) (sym ok) after
-grown (Err e) old new t kept ok err before after = subst (λ (z : Run). KeepsFor kept z.script z) (sym err) before
+grown : (old new : Run) (t : ScriptModel) (kept : Kept) → new ≡ with_script old t → KeepsFor kept t old → KeepsFor kept new.script new
+grown old new t kept is after = subst (λ (z : Run). KeepsFor kept z.script z) (sym is) after
 
 -- the run of the script with these main frames and inputs, which say the same as far as it has read them
 read_alike : (old : Run) (main : List (List Command)) (inputs : List Input) (kept : Kept) → Legal old.script old.workers (past old) → has_looked_ahead (past old) ≡ false
     → IsPlayable (with_main_and_inputs old.script main inputs) → ReadsAlike old.script (past old) main inputs → KeepsFor kept old.script old → KeepsFor kept (with_main_and_inputs old.script main inputs) old
 read_alike old main inputs kept legal looked playable reads before =
-    core_still old.script old.workers (past old) main inputs legal (tells_alike old.script old.workers (past old) main inputs legal looked reads) playable kept before
+    core_still old.script old.workers (past old) main inputs legal reads (tells_alike old.script old.workers (past old) main inputs legal looked reads) playable kept before
 
-pub grown_by_input : {X E : Type 0} (r : Result X E) (old new : Run) (x : Input) (kept : Kept) → OnOk r (new ≡ with_script old (with_input old.script x)) → OnErr r (new ≡ old)
+pub grown_by_input : (old new : Run) (x : Input) (kept : Kept) → new ≡ with_script old (with_input old.script x)
     → Legal old.script old.workers (past old) → has_looked_ahead (past old) ≡ false → IsPlayable (with_input old.script x) → KeepsFor kept old.script old → KeepsFor kept new.script new
-grown_by_input r old new x kept ok err legal looked playable before =
-    grown r old new (with_input old.script x) kept ok err before
+grown_by_input old new x kept is legal looked playable before =
+    grown old new (with_input old.script x) kept is
     (read_alike old old.script.main (old.script.inputs ++ x ∷ []) kept legal looked playable (reads_input old.script old.workers (past old) x legal) before)
 
-pub grown_by_main_frame : {X E : Type 0} (r : Result X E) (old new : Run) (kept : Kept) → OnOk r (new ≡ with_script old (with_main_frame old.script)) → OnErr r (new ≡ old)
+pub grown_by_main_frame : (old new : Run) (kept : Kept) → new ≡ with_script old (with_main_frame old.script)
     → Legal old.script old.workers (past old) → has_looked_ahead (past old) ≡ false → IsPlayable (with_main_frame old.script) → KeepsFor kept old.script old → KeepsFor kept new.script new
-grown_by_main_frame r old new kept ok err legal looked playable before =
-    grown r old new (with_main_frame old.script) kept ok err before
+grown_by_main_frame old new kept is legal looked playable before =
+    grown old new (with_main_frame old.script) kept is
     (read_alike old (old.script.main ++ [] ∷ []) old.script.inputs kept legal looked playable (reads_main_frame old.script old.workers (past old) legal) before)
 
-pub grown_by_commands : {X E : Type 0} (r : Result X E) (old new : Run) (cs : List Command) (kept : Kept) → OnOk r (new ≡ with_script old (with_commands old.script cs)) → OnErr r (new ≡ old)
+pub grown_by_commands : (old new : Run) (cs : List Command) (kept : Kept) → new ≡ with_script old (with_commands old.script cs)
     → Legal old.script old.workers (past old) → has_looked_ahead (past old) ≡ false → is_sent (sched (past old)).main_state ≡ true → IsPlayable (with_commands old.script cs) → KeepsFor kept old.script old → KeepsFor kept new.script new
-grown_by_commands r old new cs kept ok err legal looked sent playable before =
-    grown r old new (with_commands old.script cs) kept ok err before
+grown_by_commands old new cs kept is legal looked sent playable before =
+    grown old new (with_commands old.script cs) kept is
     (read_alike old (with_last cs old.script.main) old.script.inputs kept legal looked playable (reads_commands old.script old.workers (past old) cs legal (one_waits old.script old.workers (past old) legal sent)) before)

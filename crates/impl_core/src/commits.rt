@@ -4,6 +4,7 @@ ghost use Rattle.std.specs.Prelude.{◌≡◌, ℕ, List, ◌∷◌, Some, None,
 ghost use Rattle.model_states.specs.declared.kind.Kind.TheVariants as kind;
 ghost use Rattle.model_history.specs.declared.event.Event.TheVariants as event;
 ghost use Rattle.model_history.specs.declared.history.Entry.{Entry};
+ghost use Rattle.model_history.specs.Scripts.{ScriptModel};
 ghost use Rattle.model_history.specs.Accepted.{IsPlayable};
 ghost use Rattle.model_history.specs.Frames.{pulls_of};
 ghost use Rattle.model_history.specs.Legal.{Legal};
@@ -18,7 +19,7 @@ use crate::drawn::Drawn;
 use crate::handed::Handed;
 use impl_host::ImplHost;
 use impl_scroll::Standing;
-use model_history::{Event, Script};
+use model_history::Event;
 use model_states::Kind;
 use std::alloc::{AllocError, Global};
 use std::sync::Arc;
@@ -28,12 +29,11 @@ use std::sync::Arc;
 fn push_prepared(
     alloc: Global,
     host: &mut ImplHost,
-    script: &Script,
     frame: u32,
     prepared: &Option<Handed>,
 ) -> Result<Standing, AllocError>
-    requires { PushesNow script.now host.old frame prepared.now }
-    ensures hosts { OnOk result ((workers : ℕ) (h : List Entry) (actor : ℕ) → IsPlayable script.now → Legal script.now workers (commit actor frame ∷ h) → Hosts script.now h host.old → IsPrepared script.now (pulls_of h) frame prepared.now → Hosts script.now (commit actor frame ∷ h) host.new) }
+    requires { PushesNow host.old frame prepared.now }
+    ensures hosts { OnOk result ((s : ScriptModel) (workers : ℕ) (h : List Entry) (actor : ℕ) → IsPlayable s → Legal s workers (commit actor frame ∷ h) → Hosts s h host.old → IsPrepared s (pulls_of h) frame prepared.now → Hosts s (commit actor frame ∷ h) host.new) }
     ensures before { IfOk result (λ standing. standing ≡ host.old.standing) }
     ensures active { OnOk result (host.new.trees.active ≡ host.old.trees.active) }
     ensures pending { OnOk result (IsSome host.new.trees.pending) }
@@ -44,7 +44,8 @@ fn push_prepared(
     };
     let tree = Arc::try_clone(&handed.tree)?;
     let changes = handed.changes.copy()?;
-    host.push(alloc, tree, changes, frame, script.commands(frame))
+    let outright = Vec::from_slice(alloc, handed.outright.as_slice())?;
+    host.push(alloc, tree, changes, frame, outright)
 }
 
 // Lets go of what was prepared, once its commit is entered.
@@ -73,13 +74,7 @@ impl Core {
         ensures err { OnErr result (self.new ≡ self.old) }
     {
         self.log.is_legal();
-        let before = push_prepared(
-            self.alloc,
-            &mut self.host,
-            self.log.script(),
-            frame,
-            &self.prepared,
-        )?;
+        let before = push_prepared(self.alloc, &mut self.host, frame, &self.prepared)?;
         match self.log.enter(0, Event::Commit { frame }) {
             Ok(()) => {
                 drop_prepared(&mut self.prepared);

@@ -1,6 +1,6 @@
 //! What a core keeps, and what it is asked.
 
-ghost use Rattle.std.specs.Prelude.{◌≡◌, ◌-◌, ◌≤◌, length, IfOk, not, ◌&&◌, option_map};
+ghost use Rattle.std.specs.Prelude.{◌≡◌, ◌-◌, ◌≤◌, [], length, IfOk, not, ◌&&◌, option_map};
 ghost use Rattle.model_states.specs.Kinds.{is_main_idle};
 ghost use Rattle.page_layers.specs.Axes.{across, down};
 ghost use Rattle.model_history.specs.Accepted.{IsPlayable};
@@ -25,7 +25,7 @@ use geom::TileKey;
 use impl_host::ImplHost;
 use impl_log::{KeptHistory, Log, Progress};
 use impl_tiles::TileManager;
-use model_history::{Event, Moves, Script};
+use model_history::{Event, Moves, Plan, Script};
 use model_states::{MainState, Synced};
 use std::alloc::{AllocError, Global};
 use std::marker::Model;
@@ -86,26 +86,44 @@ fn is_end(event: &Event) -> bool
     }
 }
 
+// The core of a run in which nothing was entered yet. An error means out of memory.
+fn core_of(alloc: Global, log: Log) -> Result<Core, AllocError>
+    requires { log.entries ≡ [] }
+    ensures { IfOk result (λ core. core ≡ log) }
+{
+    let tiles = TileManager::new(alloc, log.plan().budget())?;
+    Ok(Core {
+        log,
+        host: ImplHost::new(alloc),
+        tiles,
+        told: Moves::new(alloc),
+        prepared: None,
+        required: Needs::new(),
+        drawn: Drawn::Nothing,
+        alloc,
+    })
+}
+
 impl Core {
-    /// The core of a run in which nothing was entered yet, with up to 16 workers. An error means out of
+    /// The core of a run of a script in which nothing was entered yet, with up to 16 workers. An error means out of
     /// memory.
     pub fn new(alloc: Global, script: Arc<Script>, workers: u32) -> Result<Core, AllocError>
         requires { workers ≤ 16 }
         ensures { IfOk result (λ core. core ≡ new_run script.value workers) }
     {
-        let budget = script.budget();
-        let tiles = TileManager::new(alloc, budget)?;
         let log = Log::new(alloc, script, workers)?;
-        Ok(Core {
-            log,
-            host: ImplHost::new(alloc),
-            tiles,
-            told: Moves::new(alloc),
-            prepared: None,
-            required: Needs::new(),
-            drawn: Drawn::Nothing,
-            alloc,
-        })
+        core_of(alloc, log)
+    }
+
+    /// The core of a run in which nothing was entered yet, with up to 16 workers. Its script has no inputs yet: they
+    /// are told while it is played. An error means out of memory.
+    pub fn of_plan(alloc: Global, plan: Plan, workers: u32) -> Result<Core, AllocError>
+        requires few { workers ≤ 16 }
+        requires untold { plan.inputs ≡ [] }
+        ensures { IfOk result (λ core. core ≡ new_run plan workers) }
+    {
+        let log = Log::of_plan(alloc, plan, workers)?;
+        core_of(alloc, log)
     }
 
     /// The number of workers.
@@ -115,11 +133,11 @@ impl Core {
         self.log.workers()
     }
 
-    /// The script.
-    pub fn script(&self) -> &Arc<Script>
-        ensures { result.now.value ≡ self.now.script }
+    /// What is kept of the script.
+    pub fn plan(&self) -> &Plan
+        ensures { result.now ≡ self.now.script }
     {
-        self.log.script()
+        self.log.plan()
     }
 
     /// The entries, the oldest first. Those since the milestone before the newest one are kept, and so is the newest
@@ -236,7 +254,7 @@ impl Core {
         ensures same { self.new ≡ self.old }
     {
         self.log.is_legal();
-        look_for_next(self.alloc, self.log.script(), &self.host, &mut self.tiles)?;
+        look_for_next(self.alloc, self.log.plan(), &self.host, &mut self.tiles)?;
         Ok(self.tiles.next_start())
     }
 
@@ -246,7 +264,7 @@ impl Core {
         ensures { self.new ≡ self.old }
     {
         self.log.is_legal();
-        look_for_next(self.alloc, self.log.script(), &self.host, &mut self.tiles)?;
+        look_for_next(self.alloc, self.log.plan(), &self.host, &mut self.tiles)?;
         self.tiles.refresh()
     }
 
@@ -255,7 +273,7 @@ impl Core {
         ensures { self.new ≡ self.old }
     {
         self.log.is_legal();
-        look(self.alloc, self.log.script(), &self.host, &mut self.tiles)?;
+        look(self.alloc, self.log.plan(), &self.host, &mut self.tiles)?;
         self.tiles.refresh()
     }
 }

@@ -42,7 +42,7 @@ impl Core {
     {
         let key = image.key();
         let pinned = self.tiles.pinned(key);
-        let tile = self.host.tile(self.log.script(), key, pinned);
+        let tile = self.host.tile(self.log.plan(), key, pinned);
         self.done_tile(worker, image, tile);
     }
 }

@@ -44,7 +44,7 @@ impl Core {
         };
         let seen = self.host.seen_active(self.alloc)?;
         let keys = visible_of(self.alloc, seen.as_ref())?;
-        let background = self.log.script().background();
+        let background = self.log.plan().background();
         draw(
             self.alloc,
             &self.tiles,

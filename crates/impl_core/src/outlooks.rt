@@ -53,27 +53,27 @@ ghost use Rattle.impl_core.specs.inner.Outlooks.{LooksNow};
 use impl_choice::{foreseen_of, reranked};
 use impl_host::ImplHost;
 use impl_tiles::TileManager;
-use model_history::Script;
+use model_history::Plan;
 use std::alloc::{AllocError, Global};
 
 /// Looks where the trees of the host stand, if that was not done since they were moved, and gives all tiles
 /// their ranks. An error means out of memory, and the tiles are as they were.
 pub(crate) fn look(
     alloc: Global,
-    script: &Script,
+    plan: &Plan,
     host: &ImplHost,
     tiles: &mut TileManager,
 ) -> Result<(), AllocError>
-    requires { LooksNow script.now host.now }
+    requires { LooksNow plan.now host.now }
     ensures seen { OnOk result (is_seen tiles.new.outlook ≡ true) }
     ensures refused { OnErr result (tiles.new ≡ tiles.old) }
-    ensures same { (s : ScriptModel) (h : List Entry) → script.now ≡ s → Hosts s h host.now → Manages s h tiles.old → Manages s h tiles.new }
+    ensures same { (s : ScriptModel) (h : List Entry) → plan.now ≡ s → Hosts s h host.now → Manages s h tiles.old → Manages s h tiles.new }
 {
     if tiles.is_seen() {
         return Ok(());
     }
     let seen = host.seen(alloc, host.standing())?;
-    let ranks = reranked(alloc, script, seen.active.as_ref(), seen.pending.as_ref())?;
+    let ranks = reranked(alloc, plan, seen.active.as_ref(), seen.pending.as_ref())?;
     tiles.rerank(ranks);
     Ok(())
 }
@@ -81,18 +81,18 @@ pub(crate) fn look(
 // Looks where the visible tiles of the trees stand. An error means out of memory, and the tiles are as they were.
 fn look_visible(
     alloc: Global,
-    script: &Script,
+    plan: &Plan,
     host: &ImplHost,
     tiles: &mut TileManager,
 ) -> Result<(), AllocError>
-    requires { LooksNow script.now host.now }
-    ensures same { (s : ScriptModel) (workers : ℕ) (h : List Entry) → script.now ≡ s → Legal s workers h → Hosts s h host.now → Manages s h tiles.old → Manages s h tiles.new }
+    requires { LooksNow plan.now host.now }
+    ensures same { (s : ScriptModel) (workers : ℕ) (h : List Entry) → plan.now ≡ s → Legal s workers h → Hosts s h host.now → Manages s h tiles.old → Manages s h tiles.new }
     ensures refused { OnErr result (tiles.new ≡ tiles.old) }
 {
     let seen = host.seen(alloc, host.standing())?;
     let all = foreseen_of(
         alloc,
-        script,
+        plan,
         seen.active.as_ref(),
         seen.pending.as_ref(),
         tiles,
@@ -101,7 +101,7 @@ fn look_visible(
         alloc,
         all.wanted.as_slice(),
         all.hidden.as_slice(),
-        script.budget(),
+        plan.budget(),
     )
 }
 
@@ -109,15 +109,15 @@ fn look_visible(
 // Then all were evicted that could be, so that few ready tiles are not visible, and it is likely that no other starts.
 fn look_visible_first(
     alloc: Global,
-    script: &Script,
+    plan: &Plan,
     host: &ImplHost,
     tiles: &mut TileManager,
 ) -> Result<(), AllocError>
-    requires { LooksNow script.now host.now }
-    ensures { (s : ScriptModel) (workers : ℕ) (h : List Entry) → script.now ≡ s → Legal s workers h → Hosts s h host.now → Manages s h tiles.old → Manages s h tiles.new }
+    requires { LooksNow plan.now host.now }
+    ensures { (s : ScriptModel) (workers : ℕ) (h : List Entry) → plan.now ≡ s → Legal s workers h → Hosts s h host.now → Manages s h tiles.old → Manages s h tiles.new }
 {
-    if tiles.is_unseen() && tiles.used() > script.budget() {
-        look_visible(alloc, script, host, tiles)
+    if tiles.is_unseen() && tiles.used() > plan.budget() {
+        look_visible(alloc, plan, host, tiles)
     } else {
         Ok(())
     }
@@ -128,18 +128,18 @@ fn look_visible_first(
 /// tiles represent what they did.
 pub(crate) fn look_for_next(
     alloc: Global,
-    script: &Script,
+    plan: &Plan,
     host: &ImplHost,
     tiles: &mut TileManager,
 ) -> Result<(), AllocError>
-    requires { LooksNow script.now host.now }
+    requires { LooksNow plan.now host.now }
     ensures told { OnOk result (TellsNext tiles.new.outlook) }
-    ensures same { (s : ScriptModel) (workers : ℕ) (h : List Entry) → script.now ≡ s → Legal s workers h → Hosts s h host.now → Manages s h tiles.old → Manages s h tiles.new }
+    ensures same { (s : ScriptModel) (workers : ℕ) (h : List Entry) → plan.now ≡ s → Legal s workers h → Hosts s h host.now → Manages s h tiles.old → Manages s h tiles.new }
 {
-    look_visible_first(alloc, script, host, tiles)?;
+    look_visible_first(alloc, plan, host, tiles)?;
     if tiles.tells_next() {
         Ok(())
     } else {
-        look(alloc, script, host, tiles)
+        look(alloc, plan, host, tiles)
     }
 }

@@ -23,7 +23,7 @@ impl Core {
         ensures err { OnErr result (self.new ≡ self.old) }
     {
         self.log.is_legal();
-        look_for_next(self.alloc, self.log.script(), &self.host, &mut self.tiles)?;
+        look_for_next(self.alloc, self.log.plan(), &self.host, &mut self.tiles)?;
         let evicted = self.tiles.evicted(key)?;
         let evicted_keys = evicted.copy()?;
         self.tiles.reserve()?;

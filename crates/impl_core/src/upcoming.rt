@@ -39,7 +39,7 @@ impl Core {
         ensures same { self.new ≡ self.old }
     {
         self.log.is_legal();
-        look(self.alloc, self.log.script(), &self.host, &mut self.tiles)?;
+        look(self.alloc, self.log.plan(), &self.host, &mut self.tiles)?;
         self.tiles.upcoming(most)
     }
 

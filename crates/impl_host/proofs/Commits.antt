@@ -3,7 +3,6 @@ use Rattle.std.proofs.Common.{◌≡◌, ℕ, suc, List, ◌∷◌, Option, Some
 use Rattle.std.specs.Prelude.{IfSome}
 use Rattle.geom.specs.Grids.{rect_of_place}
 use Rattle.region.specs.Lists.{Changed, IsRising}
-use Rattle.page_layers.specs.declared.command.Command.{Command}
 use Rattle.page_layers.specs.declared.moves.Move.{Move}
 use Rattle.page_layers.specs.Contents.{size_of}
 use Rattle.page_layers.specs.Pages.{Page}
@@ -53,7 +52,7 @@ stamped_there s ps (Some k) None is = absurd is
 stamped_there s ps (Some k) (Some t) is = is.stamps
 
 module _ (s : ScriptModel) (workers : ℕ) (h : List Entry) (actor k : ℕ) (legal : Legal s workers (commit actor k ∷ h)) (m : Option TreeModel) (is : IsTreeAt s (pulls_of h) (active h) m)
-    (p : Page) (d : Changed) (cs : List Command) (made : IsMadeBy s h k p d cs) where
+    (p : Page) (d : Changed) (ids : List ℕ) (made : IsMadeBy s h k p d ids) where
   pub may_follow : IsPlayable s → MayFollow m p d
   may_follow accepted = record {
     sizes = λ id there out.

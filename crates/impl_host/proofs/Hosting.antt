@@ -2,7 +2,6 @@
 use Rattle.std.proofs.Common.{◌≡◌, ℕ, suc, ◌≤◌, Bool, cond, ◌||◌, List, [], ◌∷◌, Option, Some, None, refl, sym, ◌∙◌, ap, subst, arith}
 use Rattle.std.specs.Option.{option_or}
 use Rattle.region.specs.Lists.{Changed, IsRising}
-use Rattle.page_layers.specs.declared.command.Command.{Command}
 use Rattle.page_layers.specs.declared.moves.Move.{Move}
 use Rattle.page_layers.specs.Pages.{Page}
 use Rattle.model_history.specs.declared.event.Event.TheVariants as event
@@ -88,17 +87,17 @@ abbrev pub host_of : TreesModel → StandingModel → List ℕ → ImplHostModel
 host_of trees st ids = record { trees = trees; standing = st; outright = ids }
 
 module _ (s : ScriptModel) (workers : ℕ) (h : List Entry) (actor k : ℕ) (legal : Legal s workers (commit actor k ∷ h)) where
-  pub committed : (m : ImplHostModel) (trees : TreesModel) (st : StandingModel) (ids : List ℕ) (p : Page) (d : Changed) (cs : List Command)
-      → Hosts s h m → IsMadeBy s h k p d cs → IsRising d.list → IsPushed m.trees p d k trees → StandsForPast s (commit actor k ∷ h) st → ((sc : ℕ) → has_number ids sc ≡ clobbers s (Some k) sc)
+  pub committed : (m : ImplHostModel) (trees : TreesModel) (st : StandingModel) (ids : List ℕ) (p : Page) (d : Changed)
+      → Hosts s h m → IsMadeBy s h k p d ids → IsRising d.list → IsPushed m.trees p d k trees → StandsForPast s (commit actor k ∷ h) st
       → Hosts s (commit actor k ∷ h) (host_of trees st ids)
-  committed m trees st ids p d cs hosts made rising pushed stands out =
+  committed m trees st ids p d hosts made rising pushed stands =
       let now : pending (commit actor k ∷ h) ≡ Some k = commit_is_pending s workers h actor k legal in
       record {
         active = subst (λ t. IsTreeAt s (pulls_of h) (active h) t) (sym pushed.active) hosts.active;
         pending = subst (λ o. IsTreeAt s (pulls_of h) o trees.pending) (sym now)
-            (subst (λ t. IsTreeAt s (pulls_of h) (Some k) t) (sym pushed.pending) (pushed_tree s workers h actor k legal m.trees.active hosts.active p d cs made pushed.tree pushed.made rising));
+            (subst (λ t. IsTreeAt s (pulls_of h) (Some k) t) (sym pushed.pending) (pushed_tree s workers h actor k legal m.trees.active hosts.active p d ids made pushed.tree pushed.made rising));
         standing = stands;
-        outright = λ sc. out sc ∙ ap (λ o. clobbers s o sc) (sym now);
+        outright = λ sc. made.outright_are sc ∙ ap (λ o. clobbers s o sc) (sym now);
       }
 
 -- ---- an activation

@@ -3,13 +3,12 @@ use Rattle.std.specs.Prelude.{◌≡◌, ℕ, suc, List, Option, Some, None}
 use Rattle.geom.specs.declared.rect.Point.{Point}
 use Rattle.model_states.specs.declared.Synced.{Synced}
 use Rattle.region.specs.Lists.{Changed}
-use Rattle.page_layers.specs.declared.command.Command.{Command}
 use Rattle.page_layers.specs.declared.moves.Move.{Move}
 use Rattle.page_layers.specs.Axes.{Axis}
 use Rattle.page_layers.specs.Pages.{Page}
 use Rattle.model_history.specs.declared.history.Entry.{Entry}
 use Rattle.model_history.specs.Scripts.{ScriptModel}
-use Rattle.model_history.specs.Frames.{commands_of, page, pulls_of, active, pending}
+use Rattle.model_history.specs.Frames.{page, pulls_of, active, pending}
 use Rattle.model_history.specs.Scrolls.{clobbers, active_offsets, pending_offsets}
 use Rattle.model_history.specs.Stamps.{frame_changes, commits_to}
 use Rattle.model_history.specs.SameChanges.{SameChanges}
@@ -51,8 +50,8 @@ pub record HostsAt (s : ScriptModel) (m : ImplHostModel) (ps : ℕ → List Move
 abbrev pub Hosts : ScriptModel → List Entry → ImplHostModel → Type 0
 Hosts s h m = HostsAt s m (pulls_of h) (active h) (pending h) (λ sc ax. values s sc ax h) (active_offsets s h) (pending_offsets s h)
 
--- after this past the main frame makes this page, makes these changes, and has these commands
-pub record IsMadeBy (s : ScriptModel) (h : List Entry) (k : ℕ) (p : Page) (d : Changed) (commands : List Command) : Type 0 where
+-- after this past the main frame makes this page, makes these changes, and sets these scrollers outright
+pub record IsMadeBy (s : ScriptModel) (h : List Entry) (k : ℕ) (p : Page) (d : Changed) (outright : List ℕ) : Type 0 where
   pub page_is : p ≡ page s (pulls_of h) (suc k)
   pub changes : SameChanges d (frame_changes s (pulls_of h) k)
-  pub commands_are : commands ≡ commands_of s k
+  pub outright_are : (sc : ℕ) → has_number outright sc ≡ clobbers s (Some k) sc

@@ -1,7 +1,6 @@
 -- When each call may be made: there is a run for which the host stands, and in which this comes next.
 use Rattle.std.specs.Prelude.{ℕ, List, ◌∷◌}
 use Rattle.region.specs.Lists.{Changed}
-use Rattle.page_layers.specs.declared.command.Command.{Command}
 use Rattle.page_layers.specs.declared.moves.Move.{Move}
 use Rattle.page_layers.specs.Pages.{Page}
 use Rattle.model_history.specs.declared.history.Entry.{Entry}
@@ -23,8 +22,8 @@ pub record SendsNow (m : ImplHostModel) : Type 0 where
   pub legal : Legal script workers (send actor frame pulls ∷ past)
   pub hosts : Hosts script past m
 
--- a run in which this commit may come next: it has this page, makes these changes, and its frame has these commands
-pub record PushesNow (m : ImplHostModel) (p : Page) (d : Changed) (frame : ℕ) (commands : List Command) : Type 0 where
+-- a run in which this commit may come next: it has this page, makes these changes, and sets these scrollers outright
+pub record PushesNow (m : ImplHostModel) (p : Page) (d : Changed) (frame : ℕ) (outright : List ℕ) : Type 0 where
   pub script : ScriptModel
   pub workers : ℕ
   pub past : List Entry
@@ -32,7 +31,7 @@ pub record PushesNow (m : ImplHostModel) (p : Page) (d : Changed) (frame : ℕ) 
   pub playable : IsPlayable script
   pub legal : Legal script workers (commit actor frame ∷ past)
   pub hosts : Hosts script past m
-  pub made : IsMadeBy script past frame p d commands
+  pub made : IsMadeBy script past frame p d outright
 
 -- a run in which an activation may come next
 pub record ActivatesNow (m : ImplHostModel) : Type 0 where

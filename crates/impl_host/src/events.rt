@@ -13,8 +13,8 @@ ghost use Rattle.impl_host.specs.Hosts.{ImplHostModel, Hosts, IsMadeBy};
 ghost use Rattle.impl_host.specs.Occasions.{SendsNow, PushesNow, ActivatesNow};
 
 use crate::host::{ImplHost, page_of};
-use impl_scroll::{Standing, clobbered_by};
-use page_layers::{Command, LayerTree};
+use impl_scroll::Standing;
+use page_layers::LayerTree;
 use region::Changes;
 use std::alloc::{AllocError, Global};
 use std::mem;
@@ -30,19 +30,19 @@ impl ImplHost {
         self.standing.sent();
     }
 
-    /// Makes the commit of a main frame pending: the page after the frame, what its commands changed, and its
-    /// commands. Answers where the scrollers stood before, for [`ImplHost::take_back`]. An error means out of
-    /// memory, and the host is as it was.
+    /// Makes the commit of a main frame pending: the page after the frame, what its commands changed, and the
+    /// scrollers that they set outright. Answers where the scrollers stood before, for [`ImplHost::take_back`]. An
+    /// error means out of memory, and the host is as it was.
     pub fn push(
         &mut self,
         alloc: Global,
         tree: Arc<LayerTree>,
         changes: Changes,
         frame: u32,
-        commands: &[Command],
+        outright: Vec<u32>,
     ) -> Result<Standing, AllocError>
-        requires { PushesNow self.old tree.value changes frame commands.now }
-        ensures hosts { OnOk result ((s : ScriptModel) (workers : ℕ) (h : List Entry) (actor : ℕ) → IsPlayable s → Legal s workers (commit actor frame ∷ h) → Hosts s h self.old → IsMadeBy s h frame tree.value changes commands.now → Hosts s (commit actor frame ∷ h) self.new) }
+        requires { PushesNow self.old tree.value changes frame outright.items }
+        ensures hosts { OnOk result ((s : ScriptModel) (workers : ℕ) (h : List Entry) (actor : ℕ) → IsPlayable s → Legal s workers (commit actor frame ∷ h) → Hosts s h self.old → IsMadeBy s h frame tree.value changes outright.items → Hosts s (commit actor frame ∷ h) self.new) }
         ensures before { IfOk result (λ standing. standing ≡ self.old.standing) }
         ensures active { OnOk result (self.new.trees.active ≡ self.old.trees.active) }
         ensures pending { OnOk result (IsSome self.new.trees.pending) }
@@ -50,7 +50,6 @@ impl ImplHost {
     {
         // This read tells the proof what the type keeps; it does nothing when it runs.
         let _ = changes.len();
-        let outright = clobbered_by(alloc, commands)?;
         let active = page_of(self.trees.active());
         let standing = self
             .standing

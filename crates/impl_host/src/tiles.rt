@@ -22,7 +22,7 @@ use crate::host::ImplHost;
 use crate::jobs::job_of;
 use crate::seen::placed_tree;
 use geom::TileKey;
-use model_history::Script;
+use model_history::Plan;
 use page_layers::LayerTree;
 use page_properties::Offsets;
 use std::alloc::AllocError;
@@ -66,12 +66,12 @@ impl ImplHost {
 
     /// The tile of a key that a worker has made: its rank, the better of its ranks in both trees, and whether
     /// it is pinned. None exactly if the key is no longer live. Takes no memory.
-    pub fn tile(&self, script: &Script, key: TileKey, pinned: bool) -> Option<ReadyTile>
-        ensures { (s : ScriptModel) (h : List Entry) → Hosts s h self.now → script.now ≡ s → pinned ≡ has_key (tiles.pinned s h) key → result ≡ cond (has_key (live_keys s h) key) (Some (ranking.ready_tile s h key)) None }
+    pub fn tile(&self, plan: &Plan, key: TileKey, pinned: bool) -> Option<ReadyTile>
+        ensures { (s : ScriptModel) (h : List Entry) → Hosts s h self.now → plan.now ≡ s → pinned ≡ has_key (tiles.pinned s h) key → result ≡ cond (has_key (live_keys s h) key) (Some (ranking.ready_tile s h key)) None }
     {
         let trees = self.placed();
         if trees.is_live(key) {
-            Some(trees.tile(script, key, pinned))
+            Some(trees.tile(plan, key, pinned))
         } else {
             None
         }

@@ -7,8 +7,8 @@ use Rattle.model_history.specs.declared.event.Event.TheVariants as event
 use Rattle.model_history.specs.declared.history.Entry.{Entry}
 use Rattle.page_layers.specs.declared.moves.Move.{Move}
 use Rattle.model_history.specs.Scripts.{ScriptModel}
-use Rattle.model_history.specs.EventFields.{sends, commits, aborts, activates}
-use Rattle.model_history.specs.Scans.{was_named, newest, counted}
+use Rattle.model_history.specs.EventFields.{sends, commits, aborts, activates, uses}
+use Rattle.model_history.specs.Scans.{was_named, newest, counted, one_more}
 use Rattle.model_history.specs.Frames.{pending, unless_activated, has_frame_ended}
 use Rattle.model_history.specs.Tiles.{in_flight}
 use Rattle.model_history.specs.Legal.{sched, Next, Legal}
@@ -17,6 +17,7 @@ use Rattle.model_history.proofs.DueFacts.{entry, at_commit, at_activate, at_done
 use Rattle.model_history.proofs.Course.{Course, course, flying, ready_not_idle, pending_last}
 use Rattle.model_history.proofs.TileCourse.{tile_course}
 use Rattle.model_steps.proofs.Picks.{shorter}
+use Rattle.impl_log.specs.declared.progress.Progress.{Progress}
 use Rattle.impl_log.specs.Progress.{progress, ended_of}
 use Rattle.impl_log.specs.inner.Steps.{stepped}
 
@@ -50,6 +51,16 @@ progress_step s n h a (event.DoneTile w q) l x =
     let e : length (in_flight (entry a (event.DoneTile w q) ∷ h)) ≡ length (in_flight h) - 1 = omega arith in
     ap (λ (m : ℕ). record (stepped (event.DoneTile w q) (progress h)) { in_flight = m }) e
 progress_step s n h a _ l x = refl
+
+-- an event that uses an input counts it
+pub inputs_step : (e : Event) (p : Progress) → (stepped e p).inputs ≡ one_more (uses e) p.inputs
+inputs_step (event.Begin i) p = refl
+inputs_step (event.Send k pulls) p = refl
+inputs_step (event.Commit k) p = refl
+inputs_step (event.Activate k clamps) p = refl
+inputs_step (event.Start w q evicted) p = refl
+inputs_step (event.DoneTile w q) p = refl
+inputs_step _ p = refl
 
 -- ---- which frames have ended
 

@@ -10,12 +10,14 @@
 //! forget its oldest entries ([`KeptHistory`]): clauses still see them.
 //!
 //! A script may be told while it is played: a log takes an input, a main frame and the commands of a main frame that
-//! waits for its answer, and the history is legal for the script that this makes.
+//! waits for its answer, and the history is legal for the script that this makes. It keeps a plan of the script, which
+//! takes the same memory however much is told, and of the inputs those that it may still ask for.
 #![tactic(auto)]
 
 mod growth;
 mod kept_history;
 mod kinds;
+mod known_inputs;
 mod laws;
 mod log;
 mod milestones;

@@ -1,9 +1,10 @@
 //! A history that only takes what may come.
 
-ghost use Rattle.std.specs.Prelude.{◌≡◌, ◌<◌, ◌≤◌, ◌+◌, ◌-◌, ◌++◌, ◌∷◌, [], length, true, not, ◌&&◌, Some, OnOk, OnErr, IfOk};
+ghost use Rattle.std.specs.Prelude.{◌≡◌, ◌<◌, ◌≤◌, ◌+◌, ◌-◌, ◌++◌, ◌∷◌, [], List, length, true, not, ◌&&◌, Some, OnOk, OnErr, IfOk};
 ghost use Rattle.model_states.specs.Kinds.{may, is_main_idle};
 ghost use Rattle.model_history.specs.EventFields.{kind_of, actor_of, begins};
 ghost use Rattle.model_history.specs.declared.event.Event.TheVariants as event;
+ghost use Rattle.model_history.specs.declared.input.Input.{Input as InputModel};
 ghost use Rattle.model_history.specs.Accepted.{IsPlayable};
 ghost use Rattle.model_history.specs.Due as dues;
 ghost use Rattle.model_history.specs.DueParts.{due_skip};
@@ -13,13 +14,15 @@ ghost use Rattle.model_history.specs.Scans as scans;
 ghost use Rattle.impl_log.specs.Kept.{forgettable, milestones};
 ghost use Rattle.impl_log.specs.Progress as progress;
 ghost use Rattle.impl_log.specs.Runs.{new_run, past, now, with_entry, is_plain_kind, is_kept, Plays};
+ghost use Rattle.impl_log.specs.inner.Known.{AreKnown};
 ghost use Rattle.impl_log.specs.inner.Logs.{MayStep};
 ghost use Rattle.impl_log.specs.inner.Steps.{placed, stepped};
 
 use crate::kept_history::KeptHistory;
+use crate::known_inputs::KnownInputs;
 use crate::milestones::Milestones;
 use crate::progress::Progress;
-use model_history::{Entry, Event, Input, Script};
+use model_history::{Entry, Event, Input, Plan, Script};
 use model_states::{Kind, MainState};
 use std::alloc::{AllocError, Global};
 use std::marker::Model;
@@ -37,7 +40,8 @@ const MANY_KEYS: usize = 65_536;
 ///
 /// Contracts see the run: the script, the number of workers and the entries, forgotten ones too.
 pub struct Log {
-    pub(crate) script: Arc<Script>,
+    pub(crate) plan: Plan,
+    pub(crate) known: KnownInputs,
     workers: u32,
     history: KeptHistory,
     progress: Progress,
@@ -48,19 +52,21 @@ impl Model for Log {
     ghost use Rattle.std.specs.Prelude.{reverse};
     ghost use Rattle.impl_log.specs.Runs.{Run};
     ghost use Rattle.impl_log.specs.inner.Logs.{IsLogOf};
+    ghost use Rattle.impl_log.specs.inner.Known.{AreKnown};
 
     ghost Value = { Run };
 
-    ghost view = { λ l. record { script = l.script.value; workers = l.workers; entries = l.history.entries } };
+    ghost view = { λ l. record { script = l.plan; workers = l.workers; entries = l.history.entries } };
 
-    ghost invariant = { λ l. IsLogOf l.script.value l.workers (reverse l.history.entries) l.progress l.history.spare l.places l.history.first };
+    ghost invariant = { λ l. IsLogOf l.plan l.workers (reverse l.history.entries) l.progress l.history.spare l.places l.history.first × AreKnown l.plan.inputs l.progress.inputs l.known };
 }
 
 // Written out, since a derived drop is proved anew, field by field, in each function that lets one go.
 impl Drop for Log {
     fn drop(self) {
         let Log {
-            script: _,
+            plan: _,
+            known: _,
             workers: _,
             history: _,
             progress: _,
@@ -77,7 +83,13 @@ fn on_if(holds: bool, event: Event) -> Option<Event>
 }
 
 // Adds an entry in a place that was reserved, and steps what is kept of the run by it.
-fn add(history: &mut KeptHistory, progress: &mut Progress, places: &mut Milestones, entry: Entry)
+fn add(
+    history: &mut KeptHistory,
+    progress: &mut Progress,
+    places: &mut Milestones,
+    known: &mut KnownInputs,
+    entry: Entry,
+)
     requires room { 1 ≤ history.old.spare }
     requires step { MayStep progress.old entry.event }
     ensures entries { history.new.entries ≡ history.old.entries ++ entry ∷ [] }
@@ -85,27 +97,51 @@ fn add(history: &mut KeptHistory, progress: &mut Progress, places: &mut Mileston
     ensures spare { history.new.spare + 1 ≡ history.old.spare }
     ensures progress { progress.new ≡ stepped entry.event progress.old }
     ensures places { places.new ≡ placed (milestones entry.event) (length history.old.entries) places.old }
+    ensures known { (inputs : List InputModel) → AreKnown inputs progress.old.inputs known.old → AreKnown inputs progress.new.inputs known.new }
 {
+    known.step(&entry.event);
     *progress = progress.after(&entry.event);
     *places = places.after(&entry.event, history.len());
     history.push_reserved(entry);
 }
 
+// The log of a run in which nothing was entered yet, of whose inputs these are known.
+fn new_log(alloc: Global, plan: Plan, known: KnownInputs, workers: u32) -> Result<Log, AllocError>
+    requires few { workers ≤ 16 }
+    requires known { AreKnown plan.inputs 0 known }
+    ensures { IfOk result (λ log. log ≡ new_run plan workers) }
+{
+    let mut history = KeptHistory::new(alloc);
+    history.reserve(1)?;
+    Ok(Log {
+        plan,
+        known,
+        workers,
+        history,
+        progress: Progress::START,
+        places: Milestones::START,
+    })
+}
+
 impl Log {
-    /// The log of a run in which nothing was entered yet, with 1 to 16 workers. An error means out of memory.
+    /// The log of a run of a script in which nothing was entered yet, with up to 16 workers. An error means out of
+    /// memory.
     pub fn new(alloc: Global, script: Arc<Script>, workers: u32) -> Result<Log, AllocError>
         requires { workers ≤ 16 }
         ensures { IfOk result (λ log. log ≡ new_run script.value workers) }
     {
-        let mut history = KeptHistory::new(alloc);
-        history.reserve(1)?;
-        Ok(Log {
-            script,
-            workers,
-            history,
-            progress: Progress::START,
-            places: Milestones::START,
-        })
+        let plan = Plan::of(&script);
+        new_log(alloc, plan, KnownInputs::All(script), workers)
+    }
+
+    /// The log of a run in which nothing was entered yet, with up to 16 workers. Its script has no inputs yet: they
+    /// are told while it is played. An error means out of memory.
+    pub fn of_plan(alloc: Global, plan: Plan, workers: u32) -> Result<Log, AllocError>
+        requires few { workers ≤ 16 }
+        requires untold { plan.inputs ≡ [] }
+        ensures { IfOk result (λ log. log ≡ new_run plan workers) }
+    {
+        new_log(alloc, plan, KnownInputs::Next(None), workers)
     }
 
     /// Enters the event of its kind and of this actor that may come now. The actor is the one whose event
@@ -118,12 +154,13 @@ impl Log {
         ensures ok { OnOk result (self.new ≡ with_entry self.old actor event) }
         ensures err { OnErr result (self.new ≡ self.old) }
     {
-        self.script.is_accepted();
+        self.plan.is_playable();
         self.history.reserve(self.workers as usize + 2)?;
         add(
             &mut self.history,
             &mut self.progress,
             &mut self.places,
+            &mut self.known,
             Entry { actor, event },
         );
         Ok(())
@@ -137,20 +174,21 @@ impl Log {
         requires within { actor < 2 + self.old.workers }
         ensures { self.new ≡ with_entry self.old actor event }
     {
-        self.script.is_accepted();
+        self.plan.is_playable();
         add(
             &mut self.history,
             &mut self.progress,
             &mut self.places,
+            &mut self.known,
             Entry { actor, event },
         );
     }
 
-    /// The script.
-    pub fn script(&self) -> &Arc<Script>
-        ensures { result.now.value ≡ self.now.script }
+    /// What is kept of the script.
+    pub fn plan(&self) -> &Plan
+        ensures { result.now ≡ self.now.script }
     {
-        &self.script
+        &self.plan
     }
 
     /// The number of workers.
@@ -196,7 +234,7 @@ impl Log {
         ensures playable { IsPlayable self.now.script }
         ensures few { self.now.workers ≤ 16 }
     {
-        self.script.is_accepted();
+        self.plan.is_playable();
     }
 
     /// Whether an event of this kind may come as far as the states tell: nothing has ended the run, and
@@ -218,17 +256,14 @@ impl Log {
     pub fn input_now(&self) -> Option<Input>
         ensures { result ≡ dues.input_now self.now.script (past self.now) }
     {
-        self.script
-            .inputs()
-            .get(self.progress.inputs as usize)
-            .copied()
+        self.known.next(self.progress.inputs)
     }
 
     /// Whether a main frame is left to be sent.
     pub fn is_left(&self) -> bool
         ensures { result ≡ frames.is_left self.now.script (past self.now) }
     {
-        (self.progress.sends as usize) < self.script.main().len()
+        self.progress.sends < self.plan.frame_count()
     }
 
     /// Whether all main frames were sent and have ended.
@@ -305,7 +340,7 @@ impl Log {
     fn end(&self) -> Option<Event>
         ensures { result ≡ dues.on_if (dues.is_over self.now.script (past self.now)) event.End }
     {
-        let used = self.progress.inputs as usize == self.script.inputs().len();
+        let used = self.progress.inputs == self.plan.input_count();
         let left = self.is_left();
         let none = self.progress.in_flight == 0;
         on_if(used && !left && none, Event::End)

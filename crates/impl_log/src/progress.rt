@@ -34,8 +34,8 @@ pub struct Progress {
     pub in_flight: u32,
 }
 
-// The input that an event uses.
-fn uses(event: &Event) -> bool
+/// Whether an event uses an input.
+pub(crate) fn uses(event: &Event) -> bool
     ensures { result ≡ spec.is_named (fields.uses event.now) }
 {
     match event {

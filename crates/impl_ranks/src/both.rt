@@ -20,7 +20,7 @@ use crate::pair::Pair;
 use crate::ready::ready_tile;
 use crate::tree::SeenTree;
 use geom::TileKey;
-use model_history::Script;
+use model_history::Plan;
 use std::alloc::{AllocError, Global};
 use tile_priority::{Borders, Rank, ReadyTile, Side};
 
@@ -34,17 +34,12 @@ pub struct SeenTrees<'a> {
 }
 
 // The rank of a key in a tree that may be missing.
-fn rank_where(
-    script: &Script,
-    side: Side,
-    tree: Option<&SeenTree<'_>>,
-    key: TileKey,
-) -> Option<Rank>
-    ensures { result ≡ spec.rank_where script.now side (option_copied tree.entry) key }
+fn rank_where(plan: &Plan, side: Side, tree: Option<&SeenTree<'_>>, key: TileKey) -> Option<Rank>
+    ensures { result ≡ spec.rank_where plan.now side (option_copied tree.entry) key }
 {
     match tree {
         None => None,
-        Some(tree) => tree.layers_rank(script, side, key),
+        Some(tree) => tree.layers_rank(plan, side, key),
     }
 }
 
@@ -60,19 +55,19 @@ fn is_page_where(tree: Option<&SeenTree<'_>>)
 
 /// A ready key with its rank, the better of its ranks in the two trees, and whether it must stay.
 pub fn tile(
-    script: &Script,
+    plan: &Plan,
     active: Option<&SeenTree<'_>>,
     pending: Option<&SeenTree<'_>>,
     key: TileKey,
     pinned: bool,
 ) -> ReadyTile
-    ensures { (a p : Tree) → IsSeenWhere a (option_copied active.entry) → IsSeenWhere p (option_copied pending.entry) → result ≡ record { key = key; rank = rank_in_both script.now a p key; pinned = pinned } }
+    ensures { (a p : Tree) → IsSeenWhere a (option_copied active.entry) → IsSeenWhere p (option_copied pending.entry) → result ≡ record { key = key; rank = rank_in_both plan.now a p key; pinned = pinned } }
 {
-    script.is_accepted();
+    plan.is_playable();
     is_page_where(active);
     is_page_where(pending);
-    let in_active = rank_where(script, Side::Active, active, key);
-    let in_pending = rank_where(script, Side::Pending, pending, key);
+    let in_active = rank_where(plan, Side::Active, active, key);
+    let in_pending = rank_where(plan, Side::Pending, pending, key);
     ready_tile(key, in_active, in_pending, pinned)
 }
 
@@ -122,35 +117,35 @@ fn all_alone(
 }
 
 // The borders of a tree, whose viewport is narrow.
-fn narrow_borders(script: &Script, tree: &SeenTree<'_>) -> Borders
-    ensures value { result ≡ ranking.borders script.now tree.now.page }
+fn narrow_borders(plan: &Plan, tree: &SeenTree<'_>) -> Borders
+    ensures value { result ≡ ranking.borders plan.now tree.now.page }
     ensures sound { IsSound result.viewport }
     ensures narrow { IsNarrow result }
 {
     let page = tree.page();
-    script.is_accepted();
+    plan.is_playable();
     page.is_page();
-    borders(script, page)
+    borders(plan, page)
 }
 
 // The ranks of the active tree, each as the better one that its key has in the pending tree. Either tree may be
 // missing.
 fn ranks_better(
     alloc: Global,
-    script: &Script,
+    plan: &Plan,
     active: Option<&SeenTree<'_>>,
     pending: Option<&SeenTree<'_>>,
 ) -> Result<Vec<Rank>, AllocError>
-    ensures { IfOk result (λ all. all.items ≡ filter_map (spec.or_better script.now (option_copied pending.entry)) (spec.ranks_where script.now side.Active (option_copied active.entry))) }
+    ensures { IfOk result (λ all. all.items ≡ filter_map (spec.or_better plan.now (option_copied pending.entry)) (spec.ranks_where plan.now side.Active (option_copied active.entry))) }
 {
     let Some(tree) = active else {
         return Ok(Vec::new(alloc));
     };
-    let own = narrow_borders(script, tree);
+    let own = narrow_borders(plan, tree);
     match pending {
         None => all_better(alloc, &own, tree.layers(), &own, &[]),
         Some(other) => {
-            let theirs = narrow_borders(script, other);
+            let theirs = narrow_borders(plan, other);
             all_better(alloc, &own, tree.layers(), &theirs, other.layers())
         }
     }
@@ -160,21 +155,21 @@ fn ranks_better(
 // missing.
 fn with_alone(
     alloc: Global,
-    script: &Script,
+    plan: &Plan,
     active: Option<&SeenTree<'_>>,
     pending: Option<&SeenTree<'_>>,
     before: Vec<Rank>,
 ) -> Result<Vec<Rank>, AllocError>
-    ensures { IfOk result (λ all. all.items ≡ before.items ++ filter_map (spec.alone script.now (option_copied active.entry)) (spec.ranks_where script.now side.Pending (option_copied pending.entry))) }
+    ensures { IfOk result (λ all. all.items ≡ before.items ++ filter_map (spec.alone plan.now (option_copied active.entry)) (spec.ranks_where plan.now side.Pending (option_copied pending.entry))) }
 {
     let Some(tree) = pending else {
         return Ok(before);
     };
-    let own = narrow_borders(script, tree);
+    let own = narrow_borders(plan, tree);
     match active {
         None => all_alone(alloc, &own, tree.layers(), &own, &[], before),
         Some(other) => {
-            let theirs = narrow_borders(script, other);
+            let theirs = narrow_borders(plan, other);
             all_alone(alloc, &own, tree.layers(), &theirs, other.layers(), before)
         }
     }
@@ -184,16 +179,16 @@ fn with_alone(
 /// the viewports, not with the size of the layers. An error means out of memory.
 pub fn ranked(
     alloc: Global,
-    script: &Script,
+    plan: &Plan,
     active: Option<&SeenTree<'_>>,
     pending: Option<&SeenTree<'_>>,
 ) -> Result<Vec<Rank>, AllocError>
-    ensures members { IfOk result (λ ranks. (a p : Tree) → IsSeenWhere a (option_copied active.entry) → IsSeenWhere p (option_copied pending.entry) → SameMembers ranks.items (filter_map (rank_in_both script.now a p) (keys_of a ++ keys_of p))) }
+    ensures members { IfOk result (λ ranks. (a p : Tree) → IsSeenWhere a (option_copied active.entry) → IsSeenWhere p (option_copied pending.entry) → SameMembers ranks.items (filter_map (rank_in_both plan.now a p) (keys_of a ++ keys_of p))) }
     ensures once { IfOk result (λ ranks. (a p : Tree) → IsSeenWhere a (option_copied active.entry) → IsSeenWhere p (option_copied pending.entry) → AreDistinctKeys (map (λ (r : RankModel). r.key) ranks.items)) }
 {
-    script.is_accepted();
+    plan.is_playable();
     is_page_where(active);
     is_page_where(pending);
-    let in_active = ranks_better(alloc, script, active, pending)?;
-    with_alone(alloc, script, active, pending, in_active)
+    let in_active = ranks_better(alloc, plan, active, pending)?;
+    with_alone(alloc, plan, active, pending, in_active)
 }

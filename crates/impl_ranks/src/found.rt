@@ -7,22 +7,22 @@ ghost use Rattle.impl_ranks.specs.inner.Lists as spec;
 
 use crate::layer::SeenLayer;
 use geom::{Place, TileKey};
-use model_history::Script;
+use model_history::Plan;
 use page_layers::LayerTree;
 use tile_priority::{Borders, Rank, Side, rank_in};
 use tile_visible::viewport;
 
 /// By what the tiles of a page are ranked.
-pub(crate) fn borders(script: &Script, page: &LayerTree) -> Borders
-    ensures value { result ≡ ranking.borders script.now page.now }
+pub(crate) fn borders(plan: &Plan, page: &LayerTree) -> Borders
+    ensures value { result ≡ ranking.borders plan.now page.now }
     ensures sound { IsSound result.viewport }
 {
     let viewport = viewport(page);
     Borders {
         viewport,
-        soon: script.soon(),
-        eventually: script.eventually(),
-        priority: script.priority(),
+        soon: plan.soon(),
+        eventually: plan.eventually(),
+        priority: plan.priority(),
     }
 }
 

@@ -22,7 +22,7 @@ ghost use Rattle.impl_ranks.specs.inner.Stamped.{stamped};
 use crate::found::{borders, rank_on};
 use crate::layer::SeenLayer;
 use geom::{Place, TileKey};
-use model_history::Script;
+use model_history::Plan;
 use page_layers::{Layer, LayerTree};
 use page_properties::Offsets;
 use std::marker::Model;
@@ -96,13 +96,13 @@ impl<'a> PlacedTree<'a> {
 
     /// The rank of a key in the tree of this side; None exactly if the tree lacks the key, or its tile
     /// has no bin.
-    pub fn rank(&self, script: &Script, side: Side, key: TileKey) -> Option<Rank>
-        ensures value { (t : Tree) → IsPlaced t self.now → result ≡ ranking.rank_in script.now side t key }
+    pub fn rank(&self, plan: &Plan, side: Side, key: TileKey) -> Option<Rank>
+        ensures value { (t : Tree) → IsPlaced t self.now → result ≡ ranking.rank_in plan.now side t key }
         ensures of_key { IsRankOfKey key result }
     {
         self.page.is_page();
         let found = self.layer(key.layer);
-        let borders = borders(script, self.page);
+        let borders = borders(plan, self.page);
         rank_stamped(self.page, self.offsets, &borders, side, found, key)
     }
 }

@@ -11,7 +11,7 @@ ghost use Rattle.impl_ranks.specs.SeenTrees.{IsPlacedWhere};
 use crate::placed::PlacedTree;
 use crate::ready::ready_tile;
 use geom::TileKey;
-use model_history::Script;
+use model_history::Plan;
 use tile_priority::{Rank, ReadyTile, Side};
 
 /// An active and a pending tree, either of which may be missing, that are asked for single keys. They take
@@ -35,13 +35,13 @@ fn has(tree: &Option<PlacedTree<'_>>, key: TileKey) -> bool
 }
 
 // The rank of a key in a tree that may be missing.
-fn rank(script: &Script, side: Side, tree: &Option<PlacedTree<'_>>, key: TileKey) -> Option<Rank>
-    ensures value { (t : Tree) → IsPlacedWhere t tree.now → result ≡ ranking.rank_in script.now side t key }
+fn rank(plan: &Plan, side: Side, tree: &Option<PlacedTree<'_>>, key: TileKey) -> Option<Rank>
+    ensures value { (t : Tree) → IsPlacedWhere t tree.now → result ≡ ranking.rank_in plan.now side t key }
     ensures of_key { IsRankOfKey key result }
 {
     match tree {
         None => None,
-        Some(tree) => tree.rank(script, side, key),
+        Some(tree) => tree.rank(plan, side, key),
     }
 }
 
@@ -56,11 +56,11 @@ impl<'a> PlacedTrees<'a> {
     }
 
     /// A ready key with its rank, the better of its ranks in the two trees, and whether it must stay.
-    pub fn tile(&self, script: &Script, key: TileKey, pinned: bool) -> ReadyTile
-        ensures { (a p : Tree) → IsPlacedWhere a self.now.active → IsPlacedWhere p self.now.pending → result ≡ record { key = key; rank = rank_in_both script.now a p key; pinned = pinned } }
+    pub fn tile(&self, plan: &Plan, key: TileKey, pinned: bool) -> ReadyTile
+        ensures { (a p : Tree) → IsPlacedWhere a self.now.active → IsPlacedWhere p self.now.pending → result ≡ record { key = key; rank = rank_in_both plan.now a p key; pinned = pinned } }
     {
-        let in_active = rank(script, Side::Active, &self.active, key);
-        let in_pending = rank(script, Side::Pending, &self.pending, key);
+        let in_active = rank(plan, Side::Active, &self.active, key);
+        let in_pending = rank(plan, Side::Pending, &self.pending, key);
         ready_tile(key, in_active, in_pending, pinned)
     }
 }

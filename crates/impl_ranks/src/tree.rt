@@ -14,7 +14,7 @@ use crate::found::{borders, has_on, rank_on};
 use crate::layer::{SeenLayer, layer_at};
 use crate::run::LayerRun;
 use geom::{Keys, TileKey};
-use model_history::Script;
+use model_history::Plan;
 use page_layers::LayerTree;
 use page_properties::Offsets;
 use std::alloc::{AllocError, Global};
@@ -115,11 +115,11 @@ impl<'a> SeenTree<'a> {
     }
 
     /// The rank that one of its layers gives a key.
-    pub(crate) fn layers_rank(&self, script: &Script, side: Side, key: TileKey) -> Option<Rank>
-        ensures { result ≡ spec.seen_rank (ranking.borders script.now self.now.page) side self.now.layers key }
+    pub(crate) fn layers_rank(&self, plan: &Plan, side: Side, key: TileKey) -> Option<Rank>
+        ensures { result ≡ spec.seen_rank (ranking.borders plan.now self.now.page) side self.now.layers key }
     {
         let layer = layer_at(self.layers.as_slice(), key.layer);
-        rank_on(&borders(script, self.page), side, layer, key)
+        rank_on(&borders(plan, self.page), side, layer, key)
     }
 
     /// The keys of its visible tiles, in key order. An error means out of memory.

@@ -33,7 +33,7 @@ mod standing;
 mod steps;
 mod taking;
 
-pub use clobbering::clobbered_by;
+pub use clobbering::{clobbered_by, clobbered_in};
 pub use laws::activated_values_are_bounded;
 pub use pages::Pages;
 pub use parts::moves_of;

@@ -91,7 +91,7 @@ fn is_changed(
 {
     // The contract alone speaks of what was sent.
     let _ = sends;
-    changes_something(script, frame, pulls.as_slice(), before, after)
+    changes_something(script.commands(frame), pulls.as_slice(), before, after)
 }
 
 // How the next frame ends.

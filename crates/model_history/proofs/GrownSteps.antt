@@ -42,22 +42,7 @@ others_stay cs (f ∷ []) k l = absurd (omega (arith, l))
 others_stay cs (f ∷ g ∷ fs) zero l = refl
 others_stay cs (f ∷ g ∷ fs) (suc k) l = others_stay cs (g ∷ fs) k (omega (arith, l))
 
--- the last of several
-last_is : (cs f : List Command) (fs : List (List Command)) → with_last cs (fs ++ f ∷ []) ≡ fs ++ cs ∷ []
-last_is cs f [] = refl
-last_is cs f (g ∷ []) = refl
-last_is cs f (g ∷ h ∷ fs) = ap (λ (z : List (List Command)). g ∷ z) (last_is cs f (h ∷ fs))
-
-each_and_last : {A B : Type 0} (f : A → B) (xs : List A) (x : A) → map f (xs ++ x ∷ []) ≡ map f xs ++ f x ∷ []
-each_and_last f [] x = refl
-each_and_last f (y ∷ xs) x = ap (λ (z : List _). f y ∷ z) (each_and_last f xs x)
-
 -- where another stands in place of the last
-pub last_replaced : {A : Type 0} (f : A → List Command) (old new xs : List A) (x y : A) → old ≡ xs ++ x ∷ [] → new ≡ xs ++ y ∷ [] → map f new ≡ with_last (f y) (map f old)
-last_replaced f old new xs x y was is =
-    ap (map f) is ∙ (each_and_last f xs y ∙ sym (ap (with_last (f y)) (ap (map f) was ∙ each_and_last f xs x) ∙ last_is (f y) (f x) (map f xs)))
-
--- where another stands in place of the last, which is taken off
 last_of : {A : Type 0} (f : A → List Command) (xs : List A) (n : ℕ) (y : A) → length xs ≡ suc n → map f (take n xs ++ y ∷ []) ≡ with_last (f y) (map f xs)
 last_of f [] n y e = absurd (omega (arith, e))
 last_of f (x ∷ []) zero y e = refl

@@ -1,11 +1,13 @@
 //! Main frames on a tree: first the pulls, then the commands.
 
-ghost use Rattle.std.specs.Prelude.{◌≡◌, ◌-ℤ◌, not, ◌||◌, OnOk};
+ghost use Rattle.std.specs.Prelude.{◌≡◌, ℕ, ◌-ℤ◌, not, ◌||◌, OnOk};
 ghost use Rattle.std.specs.List.{list_any};
 ghost use Rattle.std.specs.Ordering.{int_eq};
 ghost use Rattle.model_states.specs.Bounds.{IsBoundedNumber};
 ghost use Rattle.page_layers.specs.Effects.{scrolled_by, page_after_pulls};
 ghost use Rattle.page_layers.specs.Axes.{named_in};
+ghost use Rattle.model_history.specs.Scripts.{ScriptModel};
+ghost use Rattle.model_history.specs.Frames.{commands_of};
 ghost use Rattle.model_history.specs.Ended.{AreBounded, TookCommands, TookFrame, StandsBefore, TookScriptFrame, Tells};
 ghost use Rattle.model_history.specs.inner.Ending.{Noted, TookCommand, IsPullOf, is_moved};
 
@@ -200,20 +202,19 @@ fn moves_some(before: &LayerTree, after: &LayerTree, pulls: &[Move]) -> bool
     false
 }
 
-/// Whether a main frame of a script changes something: it has commands, or the main value of some
+/// Whether a main frame with these commands changes something: it has any, or the main value of some
 /// scroller changed by more or less than its pull. `before` is the page before the frame and `after` the
 /// one after it. The parts of a pull are below 2^58 in absolute value.
 pub fn changes_something(
-    script: &Script,
-    frame: u32,
+    commands: &[Command],
     pulls: &[Move],
     before: &LayerTree,
     after: &LayerTree,
 ) -> bool
     requires { AreBounded pulls.now }
-    ensures { Tells script.now frame pulls.now before.now after.now result }
+    ensures { (s : ScriptModel) (frame : ℕ) → commands_of s frame ≡ commands.now → Tells s frame pulls.now before.now after.now result }
 {
-    match script.commands(frame) {
+    match commands {
         [] => moves_some(before, after, pulls),
         [_, ..] => true,
     }

@@ -1,7 +1,6 @@
 //! Accepted scripts.
 
-ghost use Rattle.std.specs.Prelude.{◌≡◌, true, map, IfOk, OnOk, OnErr};
-ghost use Rattle.model_history.specs.Growth.{with_input, with_main_frame, with_last, with_commands};
+ghost use Rattle.std.specs.Prelude.{◌≡◌, true, map, IfOk};
 ghost use Rattle.model_history.specs.Scripts.{script_of};
 ghost use Rattle.model_history.specs.Ranges.{is_in_ranges, are_short};
 ghost use Rattle.model_history.specs.Accepted.{IsAccepted, IsPlayable};
@@ -59,16 +58,6 @@ fn blank_page(alloc: Global, parts: &ScriptParts) -> LayerTree
     )
 }
 
-// Gives the last main frame these commands in place of its own.
-fn end_last(frames: &mut Vec<Vec<Command>>, commands: Vec<Command>)
-    ensures { map (λ frame. frame.items) frames.new.items ≡ with_last commands.items (map (λ frame. frame.items) frames.old.items) }
-{
-    match frames.pop() {
-        None => {}
-        Some(_) => frames.push_reserved(commands),
-    }
-}
-
 impl Script {
     /// The script of these parts, whose numbers are in their ranges. Its commands are applied in order
     /// from a blank page on, without pulls; `Command` tells the first that is refused.
@@ -99,41 +88,6 @@ impl Script {
         ensures { result ≡ blank self.now }
     {
         blank_page(alloc, &self.parts)
-    }
-
-    /// Adds an input after the others. An error means out of memory, and leaves the script as it was.
-    pub fn add_input(&mut self, input: Input) -> Result<(), AllocError>
-        requires { IsAccepted (with_input self.old input) }
-        ensures ok { OnOk result (self.new ≡ with_input self.old input) }
-        ensures err { OnErr result (self.new ≡ self.old) }
-    {
-        match self.parts.inputs.push(input) {
-            Ok(()) => Ok(()),
-            Err(_) => Err(AllocError),
-        }
-    }
-
-    /// Adds a main frame, which has no commands yet, after the others. An error means out of memory, and
-    /// leaves the script as it was.
-    pub fn add_frame(&mut self, alloc: Global) -> Result<(), AllocError>
-        requires { IsAccepted (with_main_frame self.old) }
-        ensures ok { OnOk result (self.new ≡ with_main_frame self.old) }
-        ensures err { OnErr result (self.new ≡ self.old) }
-    {
-        match self.parts.main.push(Vec::new(alloc)) {
-            Ok(()) => Ok(()),
-            Err(_) => Err(AllocError),
-        }
-    }
-
-    /// Gives the last main frame these commands in place of its own. A script without main frames stays
-    /// as it was.
-    pub fn end_frame(&mut self, commands: Vec<Command>)
-        requires accepted { IsAccepted (with_commands self.old commands.items) }
-        requires short { are_short (with_commands self.old commands.items).main ≡ true }
-        ensures { self.new ≡ with_commands self.old commands.items }
-    {
-        end_last(&mut self.parts.main, commands);
     }
 
     /// The parts that it was made of.

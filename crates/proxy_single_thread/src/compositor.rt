@@ -41,7 +41,7 @@ impl Compositor for SingleThread {
     }
 
     fn raster_per_frame(&self) -> u32 {
-        self.core.script().raster_per_frame()
+        self.core.plan().raster_per_frame()
     }
 
     fn changes(&mut self) -> Result<bool, AllocError> {

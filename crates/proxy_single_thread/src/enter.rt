@@ -90,7 +90,7 @@ impl SingleThread {
         self.core.is_legal();
         self.workers
             .prepared
-            .follow(kind, self.core.script().raster_per_frame());
+            .follow(kind, self.core.plan().raster_per_frame());
         answer
     }
 }

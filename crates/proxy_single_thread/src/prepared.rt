@@ -113,7 +113,7 @@ impl Prepared {
     {
         let workers = core.workers();
         let progress = core.progress();
-        let room = core.script().budget().saturating_sub(core.used());
+        let room = core.plan().budget().saturating_sub(core.used());
         let fitting = room.clamp(workers, 4 * workers);
         if progress.sched.begun == Begun::ForDraw {
             fitting.min(self.left)

@@ -5,6 +5,7 @@ use Rattle.model_history.specs.declared.event.Event.{Event}
 use Rattle.model_history.specs.declared.event.Event.TheVariants as event
 use Rattle.model_history.specs.EventFields.{sends, commits, activates}
 use Rattle.model_history.specs.Commits.{CommitModel}
+use Rattle.model_history.specs.Scrolls.{clobbers}
 use Rattle.model_history.specs.Scripts.{ScriptModel}
 use Rattle.page_layers.specs.declared.moves.Move.{Move}
 use Rattle.model_history.proofs.BoolFacts.{same_number}
@@ -38,6 +39,10 @@ pub is_commit : (s : ScriptModel) (ps : ℕ → List Move) (k : ℕ) (o : Option
 is_commit s ps k None c is e = absurd is
 is_commit s ps k (Some (end.Ready d)) c is e = let same : d ≡ c = cc in subst (IsCommitOf s ps k) same is
 is_commit s ps k (Some (end.Abort j)) c is e = absurd is
+
+-- its frame sets the scrollers outright that the script's frame does
+pub set_by : (s : ScriptModel) (ps : ℕ → List Move) (k : ℕ) (c : CommitModel) → IsCommitOf s ps k c → (sc : ℕ) → clobbers c.script (Some c.frame) sc ≡ clobbers s (Some k) sc
+set_by s ps k c is sc = λ i. clobbers (is.script i) (Some (is.frame i)) sc
 
 -- it is there
 pub commit_absent : (s : ScriptModel) (ps : ℕ → List Move) (k : ℕ) (o : Option MainEnd) → IsCommitted s ps k o → commit_of o ≡ None → ⊥

@@ -48,7 +48,7 @@ module _ (s : ScriptModel) (ps : ℕ → List Move) (k : ℕ) (host : MainHostMo
       let changed : frame_changes c.script (pulls_in c.sends) c.frame ≡ frame_changes s ps k =
       (λ i. frame_changes (same i) (pulls_in c.sends) (frame i))
       ∙ ap (λ (p : Page). changed_by p (commands_of s k) unchanged) (page_before_alike s (pulls_in c.sends) ps k below) in
-      record { frame = frame; page = commit.tree ∙ after; changes = subst (SameChanges c.changes) changed commit.changes }
+      record { script = same; frame = frame; page = commit.tree ∙ after; changes = subst (SameChanges c.changes) changed commit.changes }
 
   ends_so : (e : MainEnd) → IsEnd host ms e → IsEndOf s ps k e
   ends_so (end.Ready c) i = (sym told ∙ i.0, committed c i.1.commit (i.1.script ∙ run.script) (i.1.frame ∙ run.count) i.1.sends)

@@ -78,7 +78,7 @@ fn requeue_tiles(
     let in_flight = log.progress().in_flight;
     let seen = host.seen(alloc, host.standing())?;
     tiles.requeue(
-        log.script(),
+        log.plan(),
         seen.active.as_ref(),
         seen.pending.as_ref(),
         in_flight,

@@ -16,8 +16,9 @@ ghost use Rattle.recording_judge.specs.inner.Mains.{IsCommitted};
 ghost use Rattle.recording_judge.specs.inner.Hosts.{HostMoves, HostAborts, HostCommits, HostActivates};
 
 use impl_host::ImplHost;
+use impl_scroll::clobbered_in;
 use main_host::MainEnd;
-use model_history::{Commit, Script};
+use model_history::Commit;
 use page_layers::Move;
 use std::alloc::{AllocError, Global};
 
@@ -68,18 +69,18 @@ fn commit_of(end: Option<MainEnd>) -> Option<Commit>
 pub(crate) fn commit_to_host(
     alloc: Global,
     host: &mut ImplHost,
-    script: &Script,
     frame: u32,
     end: Option<MainEnd>,
 ) -> Result<(), AllocError>
-    requires { HostCommits script.now host.old frame end }
-    ensures { OnOk result ((workers : ℕ) (h : List Entry) (actor : ℕ) → IsPlayable script.now → Legal script.now workers (commit actor frame ∷ h) → Hosts script.now h host.old → IsCommitted script.now (pulls_of h) frame end → Hosts script.now (commit actor frame ∷ h) host.new) }
+    requires { HostCommits host.old frame end }
+    ensures { OnOk result ((s : ScriptModel) (workers : ℕ) (h : List Entry) (actor : ℕ) → IsPlayable s → Legal s workers (commit actor frame ∷ h) → Hosts s h host.old → IsCommitted s (pulls_of h) frame end → Hosts s (commit actor frame ∷ h) host.new) }
 {
     let Some(commit) = commit_of(end) else {
         unreachable!()
     };
+    let outright = clobbered_in(alloc, &commit)?;
     let (tree, changes) = commit.into_page();
-    host.push(alloc, tree, changes, frame, script.commands(frame))?;
+    host.push(alloc, tree, changes, frame, outright)?;
     Ok(())
 }
 

@@ -18,7 +18,7 @@ use crate::key_set::KeySet;
 use crate::tile_keys::{TileKeys, keys_held};
 use geom::TileKey;
 use impl_ranks::{SeenTree, ranked, tile};
-use model_history::Script;
+use model_history::Plan;
 use std::alloc::{AllocError, Global};
 use tile_priority::{Rank, ReadyTile};
 use tile_queue::RasterQueue;
@@ -58,18 +58,18 @@ fn missing(
 // The ready keys with their ranks, each with whether it is pinned. An error means out of memory.
 fn ready_tiles(
     alloc: Global,
-    script: &Script,
+    plan: &Plan,
     active: Option<&SeenTree<'_>>,
     pending: Option<&SeenTree<'_>>,
     keys: &[TileKey],
     pins: &KeySet,
 ) -> Result<Vec<ReadyTile>, AllocError>
-    ensures { IfOk result (λ ready. (a p : Tree) → IsSeenWhere a (option_copied active.entry) → IsSeenWhere p (option_copied pending.entry) → ready.items ≡ map (tile_in_both script.now a p pins.now) keys.now) }
+    ensures { IfOk result (λ ready. (a p : Tree) → IsSeenWhere a (option_copied active.entry) → IsSeenWhere p (option_copied pending.entry) → ready.items ≡ map (tile_in_both plan.now a p pins.now) keys.now) }
 {
     let mut ready = Vec::with_capacity(alloc, keys.len())?;
     for key in keys {
         let pinned = pins.has(*key);
-        ready.push(tile(script, active, pending, *key, pinned))?;
+        ready.push(tile(plan, active, pending, *key, pinned))?;
     }
     Ok(ready)
 }
@@ -77,24 +77,24 @@ fn ready_tiles(
 // The queue of both trees as they are seen, and of the tiles that are there. An error means out of memory.
 fn rebuilt(
     alloc: Global,
-    script: &Script,
+    plan: &Plan,
     active: Option<&SeenTree<'_>>,
     pending: Option<&SeenTree<'_>>,
     tiles: Tiles<'_>,
 ) -> Result<RasterQueue, AllocError>
-    requires { RebuildsNow script.now (option_copied active) (option_copied pending) (store_of tiles.flying.now) tiles.ready.now tiles.pins.now tiles.in_flight }
-    ensures { IfOk result (λ queue. (s : ScriptModel) (workers : ℕ) (h : List Entry) → Legal s workers h → script.now ≡ s → IsSeenWhere (active_tree s h) (option_copied active.entry) → IsSeenWhere (pending_tree s h) (option_copied pending.entry) → AreTilesAt s h (store_of tiles.entry.flying.now) tiles.entry.ready.now tiles.entry.pins.now tiles.entry.in_flight → Alike queue (choice s h)) }
+    requires { RebuildsNow plan.now (option_copied active) (option_copied pending) (store_of tiles.flying.now) tiles.ready.now tiles.pins.now tiles.in_flight }
+    ensures { IfOk result (λ queue. (s : ScriptModel) (workers : ℕ) (h : List Entry) → Legal s workers h → plan.now ≡ s → IsSeenWhere (active_tree s h) (option_copied active.entry) → IsSeenWhere (pending_tree s h) (option_copied pending.entry) → AreTilesAt s h (store_of tiles.entry.flying.now) tiles.entry.ready.now tiles.entry.pins.now tiles.entry.in_flight → Alike queue (choice s h)) }
 {
-    let ranks = ranked(alloc, script, active, pending)?;
+    let ranks = ranked(alloc, plan, active, pending)?;
     let wanted = missing(alloc, tiles.ready, tiles.flying, ranks.as_slice())?;
     let keys = tiles.ready.list(alloc)?;
-    let ready = ready_tiles(alloc, script, active, pending, keys.as_slice(), tiles.pins)?;
+    let ready = ready_tiles(alloc, plan, active, pending, keys.as_slice(), tiles.pins)?;
     let mut queue = RasterQueue::new(alloc);
     queue.rebuild(
         wanted.as_slice(),
         ready.as_slice(),
         tiles.in_flight,
-        script.budget(),
+        plan.budget(),
     )?;
     Ok(queue)
 }
@@ -103,14 +103,14 @@ fn rebuilt(
 /// An error means out of memory.
 pub(crate) fn queue_of(
     alloc: Global,
-    script: &Script,
+    plan: &Plan,
     active: Option<&SeenTree<'_>>,
     pending: Option<&SeenTree<'_>>,
     tiles: &TileKeys,
     in_flight: u32,
 ) -> Result<RasterQueue, AllocError>
-    requires { QueuesNow script.now (option_copied active) (option_copied pending) tiles.now in_flight }
-    ensures { IfOk result (λ queue. (s : ScriptModel) (workers : ℕ) (h : List Entry) → Legal s workers h → script.now ≡ s → Holds s workers h tiles.now → IsSeenWhere (active_tree s h) (option_copied active.entry) → IsSeenWhere (pending_tree s h) (option_copied pending.entry) → in_flight ≡ length (model.in_flight h) → Alike queue (choice s h)) }
+    requires { QueuesNow plan.now (option_copied active) (option_copied pending) tiles.now in_flight }
+    ensures { IfOk result (λ queue. (s : ScriptModel) (workers : ℕ) (h : List Entry) → Legal s workers h → plan.now ≡ s → Holds s workers h tiles.now → IsSeenWhere (active_tree s h) (option_copied active.entry) → IsSeenWhere (pending_tree s h) (option_copied pending.entry) → in_flight ≡ length (model.in_flight h) → Alike queue (choice s h)) }
 {
     tiles.ready.is_in_order();
     let held = keys_held(alloc, tiles.held.as_slice())?;
@@ -121,5 +121,5 @@ pub(crate) fn queue_of(
         flying: &flying,
         in_flight,
     };
-    rebuilt(alloc, script, active, pending, tiles)
+    rebuilt(alloc, plan, active, pending, tiles)
 }

@@ -67,7 +67,7 @@ impl State {
             Some(page) => Some(ScreenState {
                 page,
                 offsets: self.host.standing().active(),
-                background: self.log.script().background(),
+                background: self.log.plan().background(),
             }),
         }
     }

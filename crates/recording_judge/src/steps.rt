@@ -1,6 +1,6 @@
 //! What an event does to the parts of a state, before it is entered.
 
-ghost use Rattle.std.specs.Prelude.{◌≡◌, ◌∷◌, ℕ, List, true, false, OnOk};
+ghost use Rattle.std.specs.Prelude.{◌≡◌, ◌∷◌, ℕ, List, true, false, slice_get, OnOk};
 ghost use Rattle.model_history.specs.declared.event.Event.TheVariants as variant;
 ghost use Rattle.model_history.specs.declared.history.Entry.{Entry};
 ghost use Rattle.model_history.specs.Scripts.{ScriptModel};
@@ -19,16 +19,16 @@ use crate::state::State;
 use crate::tile_keys::TileKeys;
 use geom::{Keys, Point, TileKey};
 use impl_host::ImplHost;
-use model_history::{Event, Input, Moves, Script};
+use model_history::{Event, Input, Moves};
 use page_layers::Move;
 use std::alloc::{AllocError, Global};
 
 // The move that a scroll makes, which uses this input.
-fn scrolled(script: &Script, input: u32, dx: i32, dy: i32) -> Option<Move>
-    ensures { listed result ≡ fields.moves script.now (variant.Scroll input dx dy) }
+fn scrolled(used: Option<Input>, dx: i32, dy: i32) -> Option<Move>
+    ensures { (s : ScriptModel) (input : ℕ) → used ≡ slice_get s.inputs input → listed result ≡ fields.moves s (variant.Scroll input dx dy) }
 {
-    match script.inputs().get(input as usize) {
-        Some(Input::Scroll { scroller, .. }) => Some(Move::by(*scroller, Point { x: dx, y: dy })),
+    match used {
+        Some(Input::Scroll { scroller, .. }) => Some(Move::by(scroller, Point { x: dx, y: dy })),
         _ => None,
     }
 }
@@ -97,8 +97,7 @@ impl State {
         // The contract alone speaks of the actor.
         let _ = actor;
         let end = self.main.end.take();
-        let script = self.log.script();
-        commit_to_host(self.alloc, &mut self.host, script, frame, end)?;
+        commit_to_host(self.alloc, &mut self.host, frame, end)?;
         self.tiles.forget_queue();
         Ok(())
     }
@@ -129,6 +128,16 @@ impl State {
         Ok(())
     }
 
+    // The move of a scroll that may come now.
+    fn scroll_move(&self, actor: u32, input: u32, dx: i32, dy: i32) -> Option<Move>
+        requires { MayStep self.now actor (variant.Scroll input dx dy) }
+        ensures { listed result ≡ fields.moves self.now.log.script (variant.Scroll input dx dy) }
+    {
+        // The contract alone speaks of them.
+        let _ = (actor, input);
+        scrolled(self.log.input_now(), dx, dy)
+    }
+
     // A scroll is accepted.
     fn step_scroll(
         &mut self,
@@ -142,7 +151,7 @@ impl State {
         requires is { event.now ≡ variant.Scroll input dx dy }
         ensures { OnOk result (IsStepped self.old actor event.now self.new) }
     {
-        match scrolled(self.log.script(), input, dx, dy) {
+        match self.scroll_move(actor, input, dx, dy) {
             Some(one) => self.step_moves(actor, event, &[one]),
             None => self.step_moves(actor, event, &[]),
         }
@@ -173,7 +182,7 @@ impl State {
         // The contract alone speaks of the actor.
         let _ = actor;
         let pinned = self.tiles.pinned(key);
-        let tile = self.host.tile(self.log.script(), key, pinned);
+        let tile = self.host.tile(self.log.plan(), key, pinned);
         self.tiles.done(worker, key, tile)
     }
 

@@ -24,7 +24,7 @@ use crate::key_set::KeySet;
 use crate::queues::queue_of;
 use geom::{Keys, TileKey};
 use impl_ranks::SeenTree;
-use model_history::Script;
+use model_history::Plan;
 use std::alloc::{AllocError, Global};
 use tile_priority::ReadyTile;
 use tile_queue::RasterQueue;
@@ -217,16 +217,16 @@ impl TileKeys {
     /// out of memory.
     pub(crate) fn requeue(
         &mut self,
-        script: &Script,
+        plan: &Plan,
         active: Option<&SeenTree<'_>>,
         pending: Option<&SeenTree<'_>>,
         in_flight: u32,
     ) -> Result<(), AllocError>
-        requires { QueuesNow script.now (option_copied active) (option_copied pending) self.old in_flight }
+        requires { QueuesNow plan.now (option_copied active) (option_copied pending) self.old in_flight }
         ensures queue { OnOk result (is_some self.new.queue ≡ true) }
-        ensures keeps { OnOk result ((s : ScriptModel) (workers : ℕ) (h : List Entry) → Legal s workers h → script.now ≡ s → Holds s workers h self.old → IsSeenWhere (active_tree s h) (option_copied active.entry) → IsSeenWhere (pending_tree s h) (option_copied pending.entry) → in_flight ≡ length (model.in_flight h) → Holds s workers h self.new) }
+        ensures keeps { OnOk result ((s : ScriptModel) (workers : ℕ) (h : List Entry) → Legal s workers h → plan.now ≡ s → Holds s workers h self.old → IsSeenWhere (active_tree s h) (option_copied active.entry) → IsSeenWhere (pending_tree s h) (option_copied pending.entry) → in_flight ≡ length (model.in_flight h) → Holds s workers h self.new) }
     {
-        let queue = queue_of(self.alloc, script, active, pending, self, in_flight)?;
+        let queue = queue_of(self.alloc, plan, active, pending, self, in_flight)?;
         self.queue = Some(queue);
         Ok(())
     }

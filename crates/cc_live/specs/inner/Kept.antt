@@ -11,14 +11,14 @@ use Rattle.model_states.specs.Kinds.{is_sent}
 use Rattle.model_history.specs.declared.history.Entry.{Entry}
 use Rattle.model_history.specs.declared.input.Input.{Input}
 use Rattle.model_history.specs.Scripts.{ScriptModel}
-use Rattle.model_history.specs.Accepted.{IsAccepted, TakesAll}
+use Rattle.model_history.specs.Accepted.{TakesAll}
 use Rattle.model_history.specs.EventFields.{uses, sends, answers}
 use Rattle.model_history.specs.Scans.{counted, held, has_ended}
 use Rattle.model_history.specs.Due.{input_now}
 use Rattle.model_history.specs.Frames.{page, pulls_of}
 use Rattle.model_history.specs.Growth.{has_looked_ahead}
 use Rattle.model_history.specs.Legal.{sched}
-use Rattle.model_history.specs.Ranges.{draw_count, command_in_range}
+use Rattle.model_history.specs.Ranges.{command_in_range}
 use Rattle.model_history.specs.Sharing.{has_page_key}
 use Rattle.model_steps.specs.ShownKeys.{KeyShows}
 use Rattle.impl_log.specs.Runs.{Run, past}
@@ -29,17 +29,15 @@ abbrev pub waiting : Option Input → ℕ
 waiting None = 0
 waiting (Some x) = 1
 
--- nothing has ended the run or looked ahead in it; all inputs were used but for one that waits; that many of them are draws; at most one main frame is not sent, and none while one is in flight; and the script is accepted, and of the newest version
-pub record IsTold (r : Run) (waits : Option Input) (draws : ℕ) : Type 0 where
+-- nothing has ended the run or looked ahead in it; all inputs were used but for one that waits; at most one main frame is not sent, and none while one is in flight; and the script is of the newest version
+pub record IsTold (r : Run) (waits : Option Input) : Type 0 where
   pub going : has_ended (past r) ≡ false
   pub looked : has_looked_ahead (past r) ≡ false
   pub used : length r.script.inputs ≡ counted uses (past r) + waiting waits
   pub next : input_now r.script (past r) ≡ waits
-  pub draws_are : draw_count r.script.inputs ≡ draws
   pub sent : length r.script.main ≤ counted sends (past r) + 1
   pub all_sent : is_sent (sched (past r)).main_state ≡ true → length r.script.main ≤ counted sends (past r)
   pub version : r.script.version ≡ 2
-  pub accepted : IsAccepted r.script
 
 -- the job makes this key, and shows it in every page of the script that has it
 pub record IsJobOf (s : ScriptModel) (q : TileKey) (job : Job) : Type 0 where
@@ -77,8 +75,8 @@ pub record Puts (old : List (Option Job)) (slot : ℕ) (job : Option Job) (new :
   pub others : (w : ℕ) → (w ≡ slot → ⊥) → slice_index_or new w None ≡ slice_index_or old w None
 
 -- what the compositor's calls keep
-pub record IsLive (r : Run) (waits : Option Input) (draws : ℕ) (jobs : List (Option Job)) : Type 0 where
-  pub told : IsTold r waits draws
+pub record IsLive (r : Run) (waits : Option Input) (jobs : List (Option Job)) : Type 0 where
+  pub told : IsTold r waits
   pub out : AreOut r jobs
 
 -- the page after the main frames that were answered

@@ -42,10 +42,10 @@ pub record Kept : Type 0 where
   pub required : Needs
   pub drawn : Drawn
 
--- the page after a frame with these pulls, and what the frame changed, were handed over
+-- the page after a frame with these pulls, what the frame changed, and the scrollers that it sets outright, were handed over
 abbrev pub IsPrepared : ScriptModel → (ℕ → List Move) → ℕ → Option Handed → Type 0
 IsPrepared s ps k None = ⊥
-IsPrepared s ps k (Some d) = IsPreparedFor s ps k d.tree.value d.changes
+IsPrepared s ps k (Some d) = IsPreparedFor s ps k d.tree.value d.changes d.outright.items
 
 -- the drawing shows a page at these offsets over the background of the script, with the missing tiles that it lists, which are these
 pub record ShowsPage (s : ScriptModel) (p : Page) (at : ℕ → Point) (missing : List TileKey) (d : Drawing) : Type 0 where

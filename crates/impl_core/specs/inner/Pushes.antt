@@ -11,11 +11,12 @@ use Rattle.impl_core.specs.declared.handed.Handed.{Handed}
 use Rattle.impl_core.specs.inner.Cores.{IsPrepared}
 
 -- the host represents a run in which the commit of the frame may come now, and this is the commit
-pub record PushesNow (s : ScriptModel) (host : ImplHostModel) (k : ℕ) (prepared : Option Handed) : Type 0 where
+pub record PushesNow (host : ImplHostModel) (k : ℕ) (prepared : Option Handed) : Type 0 where
+  pub script : ScriptModel
   pub workers : ℕ
   pub past : List Entry
   pub actor : ℕ
-  pub playable : IsPlayable s
-  pub legal : Legal s workers (commit actor k ∷ past)
-  pub hosts : Hosts s past host
-  pub is_prepared : IsPrepared s (pulls_of past) k prepared
+  pub playable : IsPlayable script
+  pub legal : Legal script workers (commit actor k ∷ past)
+  pub hosts : Hosts script past host
+  pub is_prepared : IsPrepared script (pulls_of past) k prepared

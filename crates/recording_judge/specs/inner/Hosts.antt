@@ -36,15 +36,16 @@ pub record HostAborts (host : ImplHostModel) : Type 0 where
   pub legal : Legal script workers (abort actor frame ∷ past)
   pub hosts : Hosts script past host
 
--- there is a run of the script in which the commit of the frame may come next, and this is the commit
-pub record HostCommits (s : ScriptModel) (host : ImplHostModel) (k : ℕ) (end : Option MainEnd) : Type 0 where
+-- there is a run in which the commit of the frame may come next, and this is the commit
+pub record HostCommits (host : ImplHostModel) (k : ℕ) (end : Option MainEnd) : Type 0 where
+  pub script : ScriptModel
   pub workers : ℕ
   pub past : List Entry
   pub actor : ℕ
-  pub playable : IsPlayable s
-  pub legal : Legal s workers (commit actor k ∷ past)
-  pub hosts : Hosts s past host
-  pub commit : IsCommitted s (pulls_of past) k end
+  pub playable : IsPlayable script
+  pub legal : Legal script workers (commit actor k ∷ past)
+  pub hosts : Hosts script past host
+  pub commit : IsCommitted script (pulls_of past) k end
 
 -- there is a run in which an activation with these moves may come next
 pub record HostActivates (host : ImplHostModel) (ms : List Move) : Type 0 where

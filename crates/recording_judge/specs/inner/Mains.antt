@@ -20,8 +20,9 @@ use Rattle.main_host.specs.declared.main_end.MainEnd.{MainEnd}
 use Rattle.main_host.specs.declared.main_end.MainEnd.TheVariants as end
 use Rattle.recording_judge.specs.declared.judged_main.JudgedMain.{JudgedMain}
 
--- the commit of frame k with these pulls: the page after it, and what it changed
+-- the commit of frame k of the script with these pulls: the page after it, and what it changed
 pub record IsCommitOf (s : ScriptModel) (ps : ℕ → List Move) (k : ℕ) (c : CommitModel) : Type 0 where
+  pub script : c.script ≡ s
   pub frame : c.frame ≡ k
   pub page : c.tree ≡ page s ps (suc k)
   pub changes : SameChanges c.changes (frame_changes s ps k)

@@ -5,7 +5,7 @@ use Rattle.impl_choice.proofs.foreseen.first_keys.Goals as goal
 
 pub returns : goal.returns
 returns c = λ a is.
-    let s = c.args.script.now in
+    let s = c.args.plan.now in
     let keys = c.in_ok-keys.ensures in
     let missing = c.as_slice.ensures ∙ c.in_ok-missing.ensures in
     c.in_ok-push_hidden_in.ensures a is ∙ (λ i. keys i ++ filter (λ q. not (is_shown_in s a q)) (missing i))

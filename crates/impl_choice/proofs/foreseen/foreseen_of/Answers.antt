@@ -18,7 +18,7 @@ use Rattle.impl_choice.proofs.foreseen.foreseen_of.Goals as goal
 
 pub returns-clause-once : goal.returns-clause-once
 returns-clause-once c =
-    let s = c.args.script.now in
+    let s = c.args.plan.now in
     let n = c.requires in
     let a = active_tree s n.past in
     let p = pending_tree s n.past in
@@ -30,11 +30,11 @@ returns-clause-once c =
     let beside = beside_visible s a p m.store _ _ shown needed _ _ c.as_slice-2.ensures c.in_ok-left.ensures in
     subst (λ (rs : List Rank). EachKeyOnce rs c.in_ok-hidden.hidden.items) (sym wanted)
     (subst (λ (ts : List Tile). EachKeyOnce (filter_map (rank_in_both s a p) (first_keys s a m.store (visible_in a) (visible_in p))) ts) (sym hidden)
-    (once_at s c.is_accepted.ensures.playable n.past m.store m.pinned c.as_slice-2.result.now beside))
+    (once_at s c.is_playable.ensures n.past m.store m.pinned c.as_slice-2.result.now beside))
 
 pub returns-clause-shown : goal.returns-clause-shown
 returns-clause-shown c =
-    let s = c.args.script.now in
+    let s = c.args.plan.now in
     let n = c.requires in
     let a = active_tree s n.past in
     let p = pending_tree s n.past in
@@ -42,7 +42,7 @@ returns-clause-shown c =
     let shown = c.in_ok-shown.ensures a n.seen_active in
     let needed = c.in_ok-needed.ensures p n.seen_pending in
     let wanted = ranks_of_visible s a p m.store _ _ shown needed _ _ (c.as_slice.ensures ∙ c.in_ok-first.ensures a n.seen_active) (c.in_ok-wanted.ensures a p n.seen_active n.seen_pending) in
-    subst (λ (rs : List Rank). (r : Rank) → In r rs → is_visible_rank (Some r) ≡ true) (sym wanted) (shown_at s c.is_accepted.ensures.playable n.past m.store)
+    subst (λ (rs : List Rank). (r : Rank) → In r rs → is_visible_rank (Some r) ≡ true) (sym wanted) (shown_at s c.is_playable.ensures n.past m.store)
 
 pub returns-clause-visible : goal.returns-clause-visible
 returns-clause-visible c = λ s workers h is legal holds seen_active seen_pending.
@@ -50,7 +50,7 @@ returns-clause-visible c = λ s workers h is legal holds seen_active seen_pendin
     (λ (z : ScriptModel). Legal z workers h → Manages z h c.args.manager.now → IsSeenWhere (active_tree z h) (option_copied c.args.active) → IsSeenWhere (pending_tree z h) (option_copied c.args.pending) → AreVisibleAt z h c.in_ok-wanted.wanted.items c.in_ok-hidden.hidden.items)
     is
     (λ legal holds seen_a seen_p.
-    let s = c.args.script.now in
+    let s = c.args.plan.now in
     let a = active_tree s h in
     let p = pending_tree s h in
     let m = c.args.manager.now in
@@ -61,5 +61,5 @@ returns-clause-visible c = λ s workers h is legal holds seen_active seen_pendin
     let beside = beside_visible s a p m.store _ _ shown needed _ _ c.as_slice-2.ensures c.in_ok-left.ensures in
     subst (λ (rs : List Rank). AreVisibleAt s h rs c.in_ok-hidden.hidden.items) (sym wanted)
     (subst (λ (ts : List Tile). AreVisibleAt s h (filter_map (rank_in_both s a p) (first_keys s a m.store (visible_in a) (visible_in p))) ts) (sym hidden)
-    (visible_at s c.is_accepted.ensures.playable h workers legal m holds c.as_slice-2.result.now beside)))
+    (visible_at s c.is_playable.ensures h workers legal m holds c.as_slice-2.result.now beside)))
     legal holds seen_active seen_pending

@@ -7,4 +7,4 @@ use Rattle.impl_ranks.specs.SeenTrees.{IsSeenWhere}
 use Rattle.impl_choice.proofs.foreseen.ranks_of.Given as goal
 
 abbrev pub invariant-loop-key : goal.invariant-loop-key
-invariant-loop-key l = (a p : Tree) → IsSeenWhere a (option_copied l.active) → IsSeenWhere p (option_copied l.pending) → l.ranks.items ≡ filter_map (rank_in_both l.script a p) (take l.key-index l.keys)
+invariant-loop-key l = (a p : Tree) → IsSeenWhere a (option_copied l.active) → IsSeenWhere p (option_copied l.pending) → l.ranks.items ≡ filter_map (rank_in_both l.plan a p) (take l.key-index l.keys)

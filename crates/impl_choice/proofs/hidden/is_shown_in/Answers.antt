@@ -20,7 +20,7 @@ blank t = record { page = record t.page { layers = [] }; offset = t.offset; stam
 
 pub returns : goal.returns
 returns c = λ t is.
-    let s = c.args.script.now in
+    let s = c.args.plan.now in
     let q = c.args.key in
     let none = none_ranked s side.Pending (blank t) q refl in
     let rank = ap (λ (z : Tile). z.rank) (c.one.view_is ∙ c.tile-one.ensures t (blank t) is refl) ∙ (ap (least (rank_in s side.Active t q)) none ∙ alone (rank_in s side.Active t q)) in

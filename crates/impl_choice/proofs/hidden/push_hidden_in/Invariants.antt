@@ -9,4 +9,4 @@ use Rattle.impl_ranks.specs.SeenTrees.{IsSeenWhere}
 use Rattle.impl_choice.proofs.hidden.push_hidden_in.Given as goal
 
 abbrev pub invariant-loop-key : goal.invariant-loop-key
-invariant-loop-key l = (t : Tree) → IsSeenWhere t (option_copied l.tree) → l.hidden ≡ l.fn.hidden ++ filter (λ q. not (is_visible_rank (rank_in l.script side.Active t q))) (take l.key-index l.keys)
+invariant-loop-key l = (t : Tree) → IsSeenWhere t (option_copied l.tree) → l.hidden ≡ l.fn.hidden ++ filter (λ q. not (is_visible_rank (rank_in l.plan side.Active t q))) (take l.key-index l.keys)

@@ -10,7 +10,7 @@ use Rattle.impl_choice.proofs.rebuild.reranked.Goals as goal
 pub new-requires : goal.new-requires
 new-requires c =
     let r = c.requires in
-    let s = c.args.script.now in
+    let s = c.args.plan.now in
     c.in_ok-ranks.ensures.once (active_tree s r.past) (pending_tree s r.past) r.seen_active r.seen_pending
 
 pub returns : goal.returns
@@ -19,6 +19,6 @@ returns c = λ s h is seen_active seen_pending.
     (λ (z : ScriptModel). IsSeenWhere (active_tree z h) (option_copied c.args.active) → IsSeenWhere (pending_tree z h) (option_copied c.args.pending) → AreRanksAt z h c.new.result)
     is
     (λ seen_a seen_p.
-    let z = c.args.script.now in
+    let z = c.args.plan.now in
     subst (AreRanksAt z h) (sym c.new.ensures) (record { members = c.in_ok-ranks.ensures.members (active_tree z h) (pending_tree z h) seen_a seen_p; budget_is = c.budget.ensures }))
     seen_active seen_pending

@@ -13,7 +13,7 @@ use Rattle.impl_core.proofs.outlooks.look_visible.Goals as goal
 pub foreseen_of-requires : goal.foreseen_of-requires
 foreseen_of-requires c =
     let n = c.requires in
-    let s = c.args.script.now in
+    let s = c.args.plan.now in
     let seen = c.in_ok-seen.ensures.trees s n.past (as_it_stands s n.past c.args.host.now c.standing.result.now c.standing.ensures n.hosts) in
     record {
       past = n.past;

@@ -13,7 +13,7 @@ use Rattle.impl_ranks.proofs.both.ranked.Goals as goal
 
 pub returns-clause-members : goal.returns-clause-members
 returns-clause-members c =
-    let s = c.args.script.now in
+    let s = c.args.plan.now in
     let o = option_copied c.args.active in
     let w = option_copied c.args.pending in
     let first : c.in_ok-in_active.in_active.items ≡ filter_map (or_better s w) (ranks_where s side.Active o) = c.in_ok-in_active.ensures in
@@ -21,12 +21,12 @@ returns-clause-members c =
     (λ v e a p left right.
     let all : v.items ≡ ranks_both s o w = e ∙ ap (λ (rs : List Rank). rs ++ filter_map (alone s o) (ranks_where s side.Pending w)) first in
     subst (λ (rs : List Rank). SameMembers rs (filter_map (rank_in_both s a p) (keys_of a ++ keys_of p))) (sym all)
-    (ranked_members s c.is_accepted.ensures.playable a p o w left right c.is_page_where.ensures c.is_page_where-2.ensures))
+    (ranked_members s c.is_playable.ensures a p o w left right c.is_page_where.ensures c.is_page_where-2.ensures))
     c.with_alone.ensures
 
 pub returns-clause-once : goal.returns-clause-once
 returns-clause-once c =
-    let s = c.args.script.now in
+    let s = c.args.plan.now in
     let o = option_copied c.args.active in
     let w = option_copied c.args.pending in
     let first : c.in_ok-in_active.in_active.items ≡ filter_map (or_better s w) (ranks_where s side.Active o) = c.in_ok-in_active.ensures in
@@ -34,5 +34,5 @@ returns-clause-once c =
     (λ v e a p left right.
     let all : v.items ≡ ranks_both s o w = e ∙ ap (λ (rs : List Rank). rs ++ filter_map (alone s o) (ranks_where s side.Pending w)) first in
     subst (λ (rs : List Rank). AreDistinctKeys (map (λ (r : Rank). r.key) rs)) (sym all)
-    (ranked_once s c.is_accepted.ensures.playable a p o w left right c.is_page_where.ensures c.is_page_where-2.ensures))
+    (ranked_once s c.is_playable.ensures a p o w left right c.is_page_where.ensures c.is_page_where-2.ensures))
     c.with_alone.ensures

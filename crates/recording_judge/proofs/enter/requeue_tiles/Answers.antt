@@ -16,7 +16,7 @@ requeue-requires c =
     let s = r.script in
     let h = past r in
     let seen = c.in_ok-seen.ensures.trees s h (hosts_with s h c.args.host.now _ c.requires.hosts c.standing.ensures) in
-    let same : c.deref.result.now ≡ s = c.deref.ensures ∙ c.script.ensures in
+    let same : c.plan.result.now ≡ s = c.plan.ensures in
     subst (λ (z : ScriptModel). QueuesNow z (option_copied c.as_ref.result) (option_copied c.as_ref-2.result) c.args.tiles.now c.progress-in_flight.result.in_flight) (sym same)
     (record {
       workers = r.workers;
@@ -36,6 +36,6 @@ returns-clause-keeps c =
     let seen = c.in_ok-seen.ensures.trees s h (hosts_with s h c.args.host.now _ c.requires.hosts c.standing.ensures) in
     on_ok c.requeue.result
     (λ keeps.
-    keeps s r.workers h c.is_legal.ensures.legal (c.deref.ensures ∙ c.script.ensures) c.requires.holds (subst (IsSeenWhere (active_tree s h)) (sym c.as_ref.ensures.value) seen.active)
+    keeps s r.workers h c.is_legal.ensures.legal c.plan.ensures c.requires.holds (subst (IsSeenWhere (active_tree s h)) (sym c.as_ref.ensures.value) seen.active)
     (subst (IsSeenWhere (pending_tree s h)) (sym c.as_ref-2.ensures.value) seen.pending) (ap (λ (p : Progress). p.in_flight) c.progress-in_flight.ensures))
     c.requeue.ensures.keeps

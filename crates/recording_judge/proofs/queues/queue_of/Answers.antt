@@ -10,7 +10,7 @@ use Rattle.recording_judge.proofs.queues.queue_of.Goals as goal
 pub rebuilt-requires : goal.rebuilt-requires
 rebuilt-requires c =
     let r = c.requires in
-    let s = c.args.script.now in
+    let s = c.args.plan.now in
     let t = c.args.tiles.now in
     let are : (q : TileKey) → has_key c.in_ok-flying.flying q ≡ has_key (held_keys t.held.items) q = λ q. c.in_ok-flying.ensures q ∙ ap (λ ks. has_key ks q) (c.as_slice-2.ensures ∙ (c.in_ok-held.ensures ∙ ap held_keys c.as_slice.ensures.value)) in
     record {

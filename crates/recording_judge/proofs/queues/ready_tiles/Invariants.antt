@@ -7,4 +7,4 @@ use Rattle.impl_ranks.specs.SeenTrees.{IsSeenWhere}
 use Rattle.recording_judge.proofs.queues.ready_tiles.Given as goal
 
 abbrev pub invariant-loop-key : goal.invariant-loop-key
-invariant-loop-key l = (a p : Tree) → IsSeenWhere a (option_copied l.active) → IsSeenWhere p (option_copied l.pending) → l.ready.items ≡ map (tile_in_both l.script a p l.pins) (take l.key-index l.keys)
+invariant-loop-key l = (a p : Tree) → IsSeenWhere a (option_copied l.active) → IsSeenWhere p (option_copied l.pending) → l.ready.items ≡ map (tile_in_both l.plan a p l.pins) (take l.key-index l.keys)

@@ -19,7 +19,7 @@ use Rattle.recording_judge.proofs.queues.rebuilt.Goals as goal
 pub rebuild-requires : goal.rebuild-requires
 rebuild-requires c =
     let r = c.requires in
-    let s = c.args.script.now in
+    let s = c.args.plan.now in
     let t = c.args.tiles in
     let store = store_of t.flying.now in
     let a = active_tree s r.past in
@@ -39,7 +39,7 @@ returns c = λ s n h legal is seen_active seen_pending tiles.
     → AreTilesAt z h store t.ready.now t.pins.now t.in_flight → Alike c.rebuild.new.self (choice z h))
     is
     (λ l seen_a seen_p held.
-    let z = c.args.script.now in
+    let z = c.args.plan.now in
     let a = active_tree z h in
     let p = pending_tree z h in
     let members = c.in_ok-ranks.ensures.members a p seen_a seen_p in

@@ -7,6 +7,6 @@ use Rattle.cc_live.proofs.live.Live.activate.Goals as goal
 
 pub invariant_of-self : goal.invariant_of-self
 invariant_of-self c = (
-  stays_played c.self.inside.core c.activate.new.self kind.Activate c.self.inside.waits c.self.inside.draws c.self.inside.jobs.items c.activate.result refl c.activate.ensures.plays c.activate.ensures.err c.self.invariant.0,
+  stays_played c.self.inside.core c.activate.new.self kind.Activate c.self.inside.waits c.self.inside.jobs.items c.activate.result refl c.activate.ensures.plays c.activate.ensures.err c.self.invariant.0,
   side_played c.self.inside.core c.activate.new.self kind.Activate c.self.inside.main.value (open_of c.self.inside.open_frame) c.activate.result refl c.activate.ensures.plays c.activate.ensures.err c.self.invariant.1,
 )

@@ -7,6 +7,6 @@ use Rattle.cc_live.proofs.live.Live.commit.Goals as goal
 
 pub invariant_of-self : goal.invariant_of-self
 invariant_of-self c = (
-  stays_played c.self.inside.core c.commit.new.self kind.Commit c.self.inside.waits c.self.inside.draws c.self.inside.jobs.items c.commit.result refl c.commit.ensures.plays c.commit.ensures.err c.self.invariant.0,
+  stays_played c.self.inside.core c.commit.new.self kind.Commit c.self.inside.waits c.self.inside.jobs.items c.commit.result refl c.commit.ensures.plays c.commit.ensures.err c.self.invariant.0,
   side_played c.self.inside.core c.commit.new.self kind.Commit c.self.inside.main.value (open_of c.self.inside.open_frame) c.commit.result refl c.commit.ensures.plays c.commit.ensures.err c.self.invariant.1,
 )

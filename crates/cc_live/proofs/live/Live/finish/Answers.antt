@@ -7,7 +7,7 @@ use Rattle.cc_live.proofs.live.Live.finish.Goals as goal
 
 pub invariant_of-self : goal.invariant_of-self
 invariant_of-self c = (
-  stays_played c.forget.new.self c.play_plain.new.self kind.Finish c.self.inside.waits c.self.inside.draws c.self.inside.jobs.items c.play_plain.result refl c.play_plain.ensures.plays c.play_plain.ensures.err
-      (same c.self.inside.core c.forget.new.self c.self.inside.waits c.self.inside.draws c.self.inside.jobs.items c.forget.ensures c.self.invariant.0),
+  stays_played c.forget.new.self c.play_plain.new.self kind.Finish c.self.inside.waits c.self.inside.jobs.items c.play_plain.result refl c.play_plain.ensures.plays c.play_plain.ensures.err
+      (same c.self.inside.core c.forget.new.self c.self.inside.waits c.self.inside.jobs.items c.forget.ensures c.self.invariant.0),
   side_played c.forget.new.self c.play_plain.new.self kind.Finish c.self.inside.main.value (open_of c.self.inside.open_frame) c.play_plain.result refl c.play_plain.ensures.plays c.play_plain.ensures.err (side_same c.self.inside.core c.forget.new.self c.self.inside.main.value (open_of c.self.inside.open_frame) c.forget.ensures c.self.invariant.1),
 )

@@ -14,4 +14,4 @@ invariant_of-self-2 c =
     let closed : open_of c.self.inside.open_frame ≡ None = ap (λ (l : LiveModel). l.open_frame) c.self.view_is ∙ c.requires.made.closed in
     let is : c.args.handed.tree.value ≡ page r.script (pulls_of (past r)) (suc c.args.frame) =
     subst (λ (z : Run). c.args.handed.tree.value ≡ page z.script (pulls_of (past z)) (suc c.args.frame)) (sym same) c.requires.made.prepared.page in
-    both_abort r c.abort.new.self c.self.inside.waits c.self.inside.draws c.self.inside.jobs.items c.self.inside.main.value (open_of c.self.inside.open_frame) c.args.frame c.requires.made.pulls c.args.handed.tree.value c.is_legal.ensures.legal e closed is c.in_ok-abort.ensures.ok c.self.invariant
+    both_abort r c.abort.new.self c.self.inside.waits c.self.inside.jobs.items c.self.inside.main.value (open_of c.self.inside.open_frame) c.args.frame c.requires.made.pulls c.args.handed.tree.value c.is_legal.ensures.legal e closed is c.in_ok-abort.ensures.ok c.self.invariant

@@ -14,4 +14,4 @@ invariant_of-self c =
     let closed : open_of c.self.inside.open_frame ≡ None = ap (λ (l : LiveModel). l.open_frame) c.self.view_is ∙ c.requires.made.closed in
     let is : c.args.handed.tree.value ≡ page r.script (pulls_of (past r)) (suc c.args.frame) =
     subst (λ (z : Run). c.args.handed.tree.value ≡ page z.script (pulls_of (past z)) (suc c.args.frame)) (sym same) c.requires.made.prepared.page in
-    both_ready r c.ready_with.new.self c.self.inside.waits c.self.inside.draws c.self.inside.jobs.items c.self.inside.main.value (open_of c.self.inside.open_frame) c.args.frame c.requires.made.pulls c.in_ok-page.page.value c.is_legal.ensures.legal e closed (c.in_ok-page.ensures ∙ is) c.in-Ok.ensures.ok c.self.invariant
+    both_ready r c.ready_with.new.self c.self.inside.waits c.self.inside.jobs.items c.self.inside.main.value (open_of c.self.inside.open_frame) c.args.frame c.requires.made.pulls c.in_ok-page.page.value c.is_legal.ensures.legal e closed (c.in_ok-page.ensures ∙ is) c.in-Ok.ensures.ok c.self.invariant

@@ -26,7 +26,7 @@ made_of-requires-clause-takes c =
     subst (λ (cs : List Command). TakesAll (page_after_pulls c.as_slice.result.now c.deref.result.now) cs) (sym c.as_slice-in-Some-open_frame.ensures.value)
     (subst (λ (ms : List Move). TakesAll (page_after_pulls ms c.deref.result.now) frame.commands) (sym c.as_slice.ensures)
     (subst (λ (q : Page). TakesAll (page_after_pulls c.in-Some.pulls.now q) frame.commands) (sym c.deref.ensures)
-    (takes_told r c.is_legal.ensures.legal c.in-Some.frame c.in-Some.pulls.now (flying r c.in-Some.frame c.in-Some.pulls.now (sym c.in-Some.ensures)) c.self.inside.main.value frame side c.self.inside.waits c.self.inside.draws c.self.invariant.0.told)))
+    (takes_told r c.is_legal.ensures.legal c.in-Some.frame c.in-Some.pulls.now (flying r c.in-Some.frame c.in-Some.pulls.now (sym c.in-Some.ensures)) c.self.inside.main.value frame side c.self.inside.waits c.self.invariant.0.told)))
 
 pub returns-in-Ok : goal.returns-in-Ok
 returns-in-Ok c =
@@ -43,4 +43,5 @@ returns-in-Ok c =
       was_open = sym (ap (λ (l : LiveModel). l.open_frame) c.self.view_is) ∙ ap open_of c.in-Some-open_frame.is;
       page = made.page;
       changes = made.changes;
+      outright = made.outright;
     }

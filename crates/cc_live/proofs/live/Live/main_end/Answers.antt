@@ -12,5 +12,5 @@ returns-in-Ok-answer c =
       in_flight = m.in_flight;
       open_frame = m.open_frame;
       was_open = m.was_open;
-      answers = subst (λ (l : LiveModel). Answers l c.in-Ok.made.0 c.answer.new.self c.in-Ok-answer.ended) (c.in_default.ensures.ok m.open_frame m.was_open) c.in-Ok-answer.ensures.ok;
+      answers = subst (λ (l : LiveModel). Answers l c.in-Ok.made.0 c.answer.new.self c.in-Ok-answer.ended) (c.tell_commands-commands.ensures.told m.open_frame m.was_open) c.in-Ok-answer.ensures.ok;
     }

@@ -7,6 +7,6 @@ use Rattle.cc_live.proofs.live.Live.skip.Goals as goal
 
 pub invariant_of-self : goal.invariant_of-self
 invariant_of-self c = (
-  stays_played c.self.inside.core c.play_plain.new.self kind.Skip c.self.inside.waits c.self.inside.draws c.self.inside.jobs.items c.play_plain.result refl c.play_plain.ensures.plays c.play_plain.ensures.err c.self.invariant.0,
+  stays_played c.self.inside.core c.play_plain.new.self kind.Skip c.self.inside.waits c.self.inside.jobs.items c.play_plain.result refl c.play_plain.ensures.plays c.play_plain.ensures.err c.self.invariant.0,
   side_played c.self.inside.core c.play_plain.new.self kind.Skip c.self.inside.main.value (open_of c.self.inside.open_frame) c.play_plain.result refl c.play_plain.ensures.plays c.play_plain.ensures.err c.self.invariant.1,
 )

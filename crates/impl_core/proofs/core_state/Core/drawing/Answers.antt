@@ -47,7 +47,7 @@ returns-clause-picture c =
     let keys : c.in_ok-keys.keys ≡ visible_in (active_tree r.script h) = c.in_ok-keys.ensures (active_tree r.script h) (subst (IsSeenWhere (active_tree r.script h)) (sym c.as_ref.ensures.value) seen) in
     let offsets : offset_at c.active.result.now ≡ active_offsets r.script h =
     ap offset_at (c.active.ensures.value ∙ ap (λ (st : StandingModel). st.active) c.standing.ensures) ∙ (λ i sc. c.self.invariant.host.standing.active sc i) in
-    let background = c.background-background.ensures ∙ ap (λ (s : ScriptModel). s.background) (c.deref.ensures ∙ c.script.ensures) in
+    let background = c.background-background.ensures ∙ ap (λ (s : ScriptModel). s.background) c.plan.ensures in
     let painted = subst (λ b. IfOk c.draw.result (λ d. (x y : ℤ) → covers (viewport c.in-Some.page.now) x y ≡ true → scene_pixel d.scene x y ≡ paint (active_page r.script h) (active_offsets r.script h) (missing_visible r.script h) b x y)) background
     (c.draw.ensures.pixels r.script h c.self.invariant.tiles page offsets keys) in
     subst (λ (z : Run). IfOk c.draw.result (λ d. IsPicture z.script (past z) d.scene)) c.self.view_is (is_picture (λ d. d.scene) r.script h c.in-Some.page.now c.draw.result page c.draw.ensures.width c.draw.ensures.height painted)

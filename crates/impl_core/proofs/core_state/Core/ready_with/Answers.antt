@@ -16,4 +16,4 @@ invariant_of-self c =
     let may_come : now r kind.Ready 1 ≡ Some (event.Ready k) = subst (λ (z : Run). now z kind.Ready 1 ≡ Some (event.Ready k)) (sym c.self.view_is) c.requires.is_now in
     one_more (record { host = c.self.inside.host; tiles = c.self.inside.tiles; told = c.self.inside.told; prepared = Some c.args.handed; required = c.self.inside.required; drawn = c.self.inside.drawn }) r c.enter.new.self 1 (event.Ready k) c.in-Ok.ensures.ok
     (ready_core r.script r.workers (past r) k c.args.handed (record { host = c.self.inside.host; tiles = c.self.inside.tiles; told = c.self.inside.told; prepared = c.self.inside.prepared; required = c.self.inside.required; drawn = c.self.inside.drawn }) (comes_next r.script r.workers (past r) 1 (event.Ready k) c.is_legal.ensures.legal may_come refl (omega arith)) c.self.invariant
-    (subst (λ (z : Run). IsPreparedFor z.script (pulls_of (past z)) k c.args.handed.tree.value c.args.handed.changes) (sym c.self.view_is) c.requires.made))
+    (subst (λ (z : Run). IsPreparedFor z.script (pulls_of (past z)) k c.args.handed.tree.value c.args.handed.changes c.args.handed.outright.items) (sym c.self.view_is) c.requires.made))

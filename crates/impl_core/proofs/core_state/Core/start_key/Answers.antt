@@ -21,37 +21,37 @@ use Rattle.impl_core.proofs.core_state.Core.start_key.Goals as goal
 pub look_for_next-requires : goal.look_for_next-requires
 look_for_next-requires c =
     let r : Run = c.self.inside.log in
-    subst (λ (s : ScriptModel). LooksNow s c.self.inside.host) (sym (c.deref.ensures ∙ c.script.ensures)) (record { past = past r; hosts = c.self.invariant.host })
+    subst (λ (s : ScriptModel). LooksNow s c.self.inside.host) (sym c.plan.ensures) (record { past = past r; hosts = c.self.invariant.host })
 
 pub invariant_of-self : goal.invariant_of-self
 invariant_of-self c =
     let r : Run = c.self.inside.log in
     with_tiles r.script (past r) (record { host = c.self.inside.host; tiles = c.self.inside.tiles; told = c.self.inside.told; prepared = c.self.inside.prepared; required = c.self.inside.required; drawn = c.self.inside.drawn }) c.look_for_next.new.tiles c.self.invariant
-    (c.look_for_next.ensures.same r.script r.workers (past r) (c.deref.ensures ∙ c.script.ensures) c.is_legal.ensures.legal c.self.invariant.host c.self.invariant.tiles)
+    (c.look_for_next.ensures.same r.script r.workers (past r) c.plan.ensures c.is_legal.ensures.legal c.self.invariant.host c.self.invariant.tiles)
 
 pub invariant_of-self-in_err-evicted : goal.invariant_of-self-in_err-evicted
 invariant_of-self-in_err-evicted c =
     let r : Run = c.self.inside.log in
     with_tiles r.script (past r) (record { host = c.self.inside.host; tiles = c.self.inside.tiles; told = c.self.inside.told; prepared = c.self.inside.prepared; required = c.self.inside.required; drawn = c.self.inside.drawn }) c.look_for_next.new.tiles c.self.invariant
-    (c.look_for_next.ensures.same r.script r.workers (past r) (c.deref.ensures ∙ c.script.ensures) c.is_legal.ensures.legal c.self.invariant.host c.self.invariant.tiles)
+    (c.look_for_next.ensures.same r.script r.workers (past r) c.plan.ensures c.is_legal.ensures.legal c.self.invariant.host c.self.invariant.tiles)
 
 pub invariant_of-self-in_err-evicted_keys : goal.invariant_of-self-in_err-evicted_keys
 invariant_of-self-in_err-evicted_keys c =
     let r : Run = c.self.inside.log in
     with_tiles r.script (past r) (record { host = c.self.inside.host; tiles = c.self.inside.tiles; told = c.self.inside.told; prepared = c.self.inside.prepared; required = c.self.inside.required; drawn = c.self.inside.drawn }) c.look_for_next.new.tiles c.self.invariant
-    (c.look_for_next.ensures.same r.script r.workers (past r) (c.deref.ensures ∙ c.script.ensures) c.is_legal.ensures.legal c.self.invariant.host c.self.invariant.tiles)
+    (c.look_for_next.ensures.same r.script r.workers (past r) c.plan.ensures c.is_legal.ensures.legal c.self.invariant.host c.self.invariant.tiles)
 
 pub invariant_of-self-in_err-reserve : goal.invariant_of-self-in_err-reserve
 invariant_of-self-in_err-reserve c =
     let r : Run = c.self.inside.log in
     with_tiles r.script (past r) (record { host = c.self.inside.host; tiles = c.self.inside.tiles; told = c.self.inside.told; prepared = c.self.inside.prepared; required = c.self.inside.required; drawn = c.self.inside.drawn }) c.reserve.new.self c.self.invariant
-    (c.reserve.ensures.same r.script (past r) (c.look_for_next.ensures.same r.script r.workers (past r) (c.deref.ensures ∙ c.script.ensures) c.is_legal.ensures.legal c.self.invariant.host c.self.invariant.tiles))
+    (c.reserve.ensures.same r.script (past r) (c.look_for_next.ensures.same r.script r.workers (past r) c.plan.ensures c.is_legal.ensures.legal c.self.invariant.host c.self.invariant.tiles))
 
 pub invariant_of-self-in_err-enter : goal.invariant_of-self-in_err-enter
 invariant_of-self-in_err-enter c =
     let r : Run = c.self.inside.log in
     refused (record { host = c.self.inside.host; tiles = c.reserve.new.self; told = c.self.inside.told; prepared = c.self.inside.prepared; required = c.self.inside.required; drawn = c.self.inside.drawn }) r c.enter.new.self c.in_err-enter.ensures.err
-    (with_tiles r.script (past r) (record { host = c.self.inside.host; tiles = c.self.inside.tiles; told = c.self.inside.told; prepared = c.self.inside.prepared; required = c.self.inside.required; drawn = c.self.inside.drawn }) c.reserve.new.self c.self.invariant (c.reserve.ensures.same r.script (past r) (c.look_for_next.ensures.same r.script r.workers (past r) (c.deref.ensures ∙ c.script.ensures) c.is_legal.ensures.legal c.self.invariant.host c.self.invariant.tiles)))
+    (with_tiles r.script (past r) (record { host = c.self.inside.host; tiles = c.self.inside.tiles; told = c.self.inside.told; prepared = c.self.inside.prepared; required = c.self.inside.required; drawn = c.self.inside.drawn }) c.reserve.new.self c.self.invariant (c.reserve.ensures.same r.script (past r) (c.look_for_next.ensures.same r.script r.workers (past r) c.plan.ensures c.is_legal.ensures.legal c.self.invariant.host c.self.invariant.tiles)))
 
 pub enter-requires-clause-is_now : goal.enter-requires-clause-is_now
 enter-requires-clause-is_now c =
@@ -61,7 +61,7 @@ enter-requires-clause-is_now c =
     let ks : List TileKey = c.in_ok-evicted.evicted in
     let free : held w (past r) ≡ None = subst (λ (z : Run). held w (past z) ≡ None) (sym c.self.view_is) c.requires.free in
     let first : IsFirst r.script (past r) q = next_first r.script (past r) q (subst (λ (z : Run). next_key z ≡ Some q) (sym c.self.view_is) c.requires.next) in
-    let gone = c.in_ok-evicted.ensures r.script r.workers (past r) first.rank c.is_legal.ensures.legal (c.look_for_next.ensures.same r.script r.workers (past r) (c.deref.ensures ∙ c.script.ensures) c.is_legal.ensures.legal c.self.invariant.host c.self.invariant.tiles) first.is_first first.key in
+    let gone = c.in_ok-evicted.ensures r.script r.workers (past r) first.rank c.is_legal.ensures.legal (c.look_for_next.ensures.same r.script r.workers (past r) c.plan.ensures c.is_legal.ensures.legal c.self.invariant.host c.self.invariant.tiles) first.is_first first.key in
     let may_come : now r kind.Start (2 + w) ≡ Some (event.Start w q ks) = start_now r.script (past r) first.going w free first.rank first.is_first q first.key ks gone in
     subst (λ (z : List TileKey). now r kind.Start (2 + w) ≡ Some (event.Start w q z)) (sym c.in_ok-evicted_keys.ensures) may_come
 
@@ -77,14 +77,14 @@ start-requires-clause-next c =
     let free : held w (past r) ≡ None = subst (λ (z : Run). held w (past z) ≡ None) (sym c.self.view_is) c.requires.free in
     let first : IsFirst r.script (past r) q = next_first r.script (past r) q (subst (λ (z : Run). next_key z ≡ Some q) (sym c.self.view_is) c.requires.next) in
     let within : w < r.workers = subst (λ (z : Run). w < z.workers) (sym c.self.view_is) c.requires.worker in
-    let gone = c.in_ok-evicted.ensures r.script r.workers (past r) first.rank c.is_legal.ensures.legal (c.look_for_next.ensures.same r.script r.workers (past r) (c.deref.ensures ∙ c.script.ensures) c.is_legal.ensures.legal c.self.invariant.host c.self.invariant.tiles) first.is_first first.key in
+    let gone = c.in_ok-evicted.ensures r.script r.workers (past r) first.rank c.is_legal.ensures.legal (c.look_for_next.ensures.same r.script r.workers (past r) c.plan.ensures c.is_legal.ensures.legal c.self.invariant.host c.self.invariant.tiles) first.is_first first.key in
     record {
       script = r.script;
       workers = r.workers;
       past = past r;
       actor = 2 + w;
       worker = w;
-      manages = c.reserve.ensures.same r.script (past r) (c.look_for_next.ensures.same r.script r.workers (past r) (c.deref.ensures ∙ c.script.ensures) c.is_legal.ensures.legal c.self.invariant.host c.self.invariant.tiles);
+      manages = c.reserve.ensures.same r.script (past r) (c.look_for_next.ensures.same r.script r.workers (past r) c.plan.ensures c.is_legal.ensures.legal c.self.invariant.host c.self.invariant.tiles);
       legal =
           comes_next r.script r.workers (past r) (2 + w) (event.Start w q ks) c.is_legal.ensures.legal (start_now r.script (past r) first.going w free first.rank first.is_first q first.key ks gone) refl (omega (arith, within));
     }
@@ -98,11 +98,11 @@ invariant_of-self-2 c =
     let free : held w (past r) ≡ None = subst (λ (z : Run). held w (past z) ≡ None) (sym c.self.view_is) c.requires.free in
     let first : IsFirst r.script (past r) q = next_first r.script (past r) q (subst (λ (z : Run). next_key z ≡ Some q) (sym c.self.view_is) c.requires.next) in
     let within : w < r.workers = subst (λ (z : Run). w < z.workers) (sym c.self.view_is) c.requires.worker in
-    let gone = c.in_ok-evicted.ensures r.script r.workers (past r) first.rank c.is_legal.ensures.legal (c.look_for_next.ensures.same r.script r.workers (past r) (c.deref.ensures ∙ c.script.ensures) c.is_legal.ensures.legal c.self.invariant.host c.self.invariant.tiles) first.is_first first.key in
+    let gone = c.in_ok-evicted.ensures r.script r.workers (past r) first.rank c.is_legal.ensures.legal (c.look_for_next.ensures.same r.script r.workers (past r) c.plan.ensures c.is_legal.ensures.legal c.self.invariant.host c.self.invariant.tiles) first.is_first first.key in
     let legal : Legal r.script r.workers (start (2 + w) w q ks ∷ past r) =
     comes_next r.script r.workers (past r) (2 + w) (event.Start w q ks) c.is_legal.ensures.legal (start_now r.script (past r) first.going w free first.rank first.is_first q first.key ks gone) refl (omega (arith, within)) in
     let started : Manages r.script (start (2 + w) w q ks ∷ past r) c.start.new.self =
-    c.start.ensures.tiles r.script r.workers (past r) (2 + w) w (c.reserve.ensures.same r.script (past r) (c.look_for_next.ensures.same r.script r.workers (past r) (c.deref.ensures ∙ c.script.ensures) c.is_legal.ensures.legal c.self.invariant.host c.self.invariant.tiles)) legal in
+    c.start.ensures.tiles r.script r.workers (past r) (2 + w) w (c.reserve.ensures.same r.script (past r) (c.look_for_next.ensures.same r.script r.workers (past r) c.plan.ensures c.is_legal.ensures.legal c.self.invariant.host c.self.invariant.tiles)) legal in
     let entered : c.enter.new.self ≡ with_entry r (2 + w) (event.Start w q ks) =
     subst (λ (z : List TileKey). c.enter.new.self ≡ with_entry r (2 + w) (event.Start w q z)) c.in_ok-evicted_keys.ensures c.in_ok-enter.ensures.ok in
     one_more (record { host = c.self.inside.host; tiles = c.start.new.self; told = c.self.inside.told; prepared = c.self.inside.prepared; required = c.evict.new.self; drawn = drawn.Nothing }) r c.enter.new.self (2 + w) (event.Start w q ks) entered
@@ -117,7 +117,7 @@ returns-clause-ok c =
     let ks : List TileKey = c.in_ok-evicted.evicted in
     let free : held w (past r) ≡ None = subst (λ (z : Run). held w (past z) ≡ None) (sym c.self.view_is) c.requires.free in
     let first : IsFirst r.script (past r) q = next_first r.script (past r) q (subst (λ (z : Run). next_key z ≡ Some q) (sym c.self.view_is) c.requires.next) in
-    let gone = c.in_ok-evicted.ensures r.script r.workers (past r) first.rank c.is_legal.ensures.legal (c.look_for_next.ensures.same r.script r.workers (past r) (c.deref.ensures ∙ c.script.ensures) c.is_legal.ensures.legal c.self.invariant.host c.self.invariant.tiles) first.is_first first.key in
+    let gone = c.in_ok-evicted.ensures r.script r.workers (past r) first.rank c.is_legal.ensures.legal (c.look_for_next.ensures.same r.script r.workers (past r) c.plan.ensures c.is_legal.ensures.legal c.self.invariant.host c.self.invariant.tiles) first.is_first first.key in
     let may_come : now r kind.Start (2 + w) ≡ Some (event.Start w q ks) = start_now r.script (past r) first.going w free first.rank first.is_first q first.key ks gone in
     let entered : c.enter.new.self ≡ with_entry r (2 + w) (event.Start w q ks) =
     subst (λ (z : List TileKey). c.enter.new.self ≡ with_entry r (2 + w) (event.Start w q z)) c.in_ok-evicted_keys.ensures c.in_ok-enter.ensures.ok in

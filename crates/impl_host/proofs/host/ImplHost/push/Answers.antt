@@ -1,8 +1,6 @@
 -- The tree may follow the active one, and then the host is the one after the commit.
-use Rattle.std.proofs.Common.{◌≡◌, ℕ, ◌∷◌, Some, option_map, ap, ◌∙◌, sym, subst}
-use Rattle.std.specs.List.{list_any}
+use Rattle.std.proofs.Common.{◌∷◌, option_map, ap, ◌∙◌, sym, subst}
 use Rattle.model_history.specs.Frames.{pulls_of, active, pending}
-use Rattle.model_history.specs.Scrolls.{scrolls_to, clobbers}
 use Rattle.impl_scroll.specs.Rows.{has_number}
 use Rattle.model_steps.specs.Events.{commit}
 use Rattle.impl_scroll.specs.Standings.{StandsForPast}
@@ -23,16 +21,14 @@ pub push-requires-clause-follows : goal.push-requires-clause-follows
 push-requires-clause-follows c =
     let r = c.requires in
     subst (λ t. MayFollow t c.args.tree.value c.args.changes) (sym (ap (λ (m : ImplHostModel). m.trees.active) c.self.view_is))
-    (may_follow r.script r.workers r.past r.actor c.args.frame r.legal c.args.self.now.trees.active r.hosts.active c.args.tree.value c.args.changes c.args.commands.now r.made r.playable)
+    (may_follow r.script r.workers r.past r.actor c.args.frame r.legal c.args.self.now.trees.active r.hosts.active c.args.tree.value c.args.changes c.args.outright.items r.made r.playable)
 
 pub returns-in-Ok-clause-hosts : goal.returns-in-Ok-clause-hosts
 returns-in-Ok-clause-hosts c = λ s workers h actor accepted legal hosts made.
     let m : ImplHostModel = record { trees = c.self.inside.trees; standing = c.self.inside.standing; outright = c.self.inside.outright.items } in
     let inside : Hosts s h m = subst (Hosts s h) (sym c.self.view_is) hosts in
-    let ids = c.in_ok-outright.outright.items in
-    let out : (sc : ℕ) → has_number ids sc ≡ clobbers s (Some c.args.frame) sc = λ sc. c.in_ok-outright.ensures sc ∙ ap (λ cs. list_any (scrolls_to sc) cs) made.commands_are in
     let stands = c.in_ok-standing.ensures s workers h actor c.args.frame legal inside.standing
     (c.page_of-active.ensures ∙ ap (λ o. option_map (λ (t : TreeModel). t.page) o) c.active.ensures ∙ page_there s (pulls_of h) (active h) m.trees.active inside.active)
-    (c.deref.ensures ∙ made.page_is) (λ sc. ap (λ ns. has_number ns sc) c.as_slice.ensures.value ∙ out sc) in
-    committed s workers h actor c.args.frame legal m c.push.new.self c.replace.new.dest ids c.args.tree.value c.args.changes c.args.commands.now inside made c.len.ensures.rising c.in-Ok.ensures.ok
-    (subst (StandsForPast s (commit actor c.args.frame ∷ h)) (sym c.replace.ensures.after) stands) out
+    (c.deref.ensures ∙ made.page_is) (λ sc. ap (λ ns. has_number ns sc) c.as_slice.ensures.value ∙ made.outright_are sc) in
+    committed s workers h actor c.args.frame legal m c.push.new.self c.replace.new.dest c.args.outright.items c.args.tree.value c.args.changes inside made c.len.ensures.rising c.in-Ok.ensures.ok
+    (subst (StandsForPast s (commit actor c.args.frame ∷ h)) (sym c.replace.ensures.after) stands)

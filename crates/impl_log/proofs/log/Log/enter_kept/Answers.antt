@@ -14,18 +14,18 @@ use Rattle.impl_log.proofs.log.Log.enter_kept.Goals as goal
 
 pub add-requires-clause-step : goal.add-requires-clause-step
 add-requires-clause-step c =
-    let s = c.self.inside.script.value in
+    let s = c.self.inside.plan in
     let n = c.self.inside.workers in
     let h = reverse c.self.inside.history.entries in
     let a = c.args.actor in
     let e = c.args.event in
     let x : Next s n h (entry a e) =
     next_is s n h a e (ap (λ (r : Run). now r (kind_of e) a) c.self.view_is ∙ c.requires.is_now) c.requires.actor (subst (λ (r : Run). a < 2 + r.workers) (sym c.self.view_is) c.requires.within) in
-    may_step s n h c.self.inside.progress c.self.inside.history.spare c.self.inside.places c.self.inside.history.first (subst IsPlayable c.deref.ensures c.is_accepted.ensures.playable) c.self.invariant a e x
+    may_step s n h c.self.inside.progress c.self.inside.history.spare c.self.inside.places c.self.inside.history.first c.is_playable.ensures c.self.invariant.0 a e x
 
 pub invariant_of-self : goal.invariant_of-self
 invariant_of-self c =
-    let s = c.self.inside.script.value in
+    let s = c.self.inside.plan in
     let n = c.self.inside.workers in
     let h = reverse c.self.inside.history.entries in
     let a = c.args.actor in
@@ -35,7 +35,8 @@ invariant_of-self c =
     let es : List Entry = c.self.inside.history.entries in
     let left = c.add.new.history.spare in
     let there : c.add.new.places ≡ placed (milestones e) (length h) c.self.inside.places = c.add.ensures.places ∙ ap (λ (k : ℕ). placed (milestones e) k c.self.inside.places) (sym (length-reverse es)) in
-    subst (λ (g : List Entry). IsLogOf s n g c.add.new.progress left c.add.new.places c.add.new.history.first)
+    let log = subst (λ (g : List Entry). IsLogOf s n g c.add.new.progress left c.add.new.places c.add.new.history.first)
     (sym (past_more es c.add.new.history.entries (entry a e) c.add.ensures.entries))
-    (kept s n h c.self.inside.progress c.self.inside.history.spare c.self.inside.places c.self.inside.history.first (subst IsPlayable c.deref.ensures c.is_accepted.ensures.playable) c.self.invariant a e x c.requires.kept
-    c.add.new.progress left c.add.new.places c.add.new.history.first c.add.ensures.progress there c.add.ensures.first c.add.ensures.spare)
+    (kept s n h c.self.inside.progress c.self.inside.history.spare c.self.inside.places c.self.inside.history.first c.is_playable.ensures c.self.invariant.0 a e x c.requires.kept
+    c.add.new.progress left c.add.new.places c.add.new.history.first c.add.ensures.progress there c.add.ensures.first c.add.ensures.spare) in
+    (log, c.add.ensures.known s.inputs c.self.invariant.1)

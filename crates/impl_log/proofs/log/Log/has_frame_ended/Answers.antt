@@ -9,6 +9,6 @@ use Rattle.impl_log.proofs.log.Log.has_frame_ended.Goals as goal
 pub returns : goal.returns
 returns c =
     let k = c.args.frame in
-    ap (λ n. nat_lt k n) (c.ended_frames.ensures ∙ ap (λ (p : Progress). ended_frames p) c.self.invariant.progress)
-    ∙ sym (ended_is c.self.inside.script.value c.self.inside.workers (reverse c.self.inside.history.entries) k c.self.invariant.legal)
+    ap (λ n. nat_lt k n) (c.ended_frames.ensures ∙ ap (λ (p : Progress). ended_frames p) c.self.invariant.0.progress)
+    ∙ sym (ended_is c.self.inside.plan c.self.inside.workers (reverse c.self.inside.history.entries) k c.self.invariant.0.legal)
     ∙ ap (λ (r : Run). has_frame_ended (past r) k) c.self.view_is

@@ -19,7 +19,7 @@ rank_stamped-requires-clause-cut c = subst (λ (z : PlacedModel). IfSome c.layer
 
 pub returns-clause-value : goal.returns-clause-value
 returns-clause-value c = λ t is.
-    let s = c.args.script.now in
+    let s = c.args.plan.now in
     let page = ap (λ (m : PlacedModel). m.page) c.self.view_is ∙ is.page in
     let seen = λ (m : PlacedModel). option_map (λ f. stamped m.page (offset_at m.offsets) (parts_of f.0.now) f.1.now) c.layer-found.result in
     c.rank_stamped.ensures

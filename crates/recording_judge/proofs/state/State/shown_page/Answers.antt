@@ -21,5 +21,5 @@ returns-in-Some c =
       page = active_is r.script (past r) c.in-Some.page.now (sym (ap option_copied c.in-Some.is) ∙ pages.active);
       offsets = offsets_are r.script (past r) c.args.self.now.host c.standing.result.now c.active.result.now c.requires.host c.standing.ensures c.active.ensures.value;
       in_range = c.active.ensures.in_range;
-      background = c.background.ensures ∙ ap (λ (s : ScriptModel). s.background) (c.deref.ensures ∙ c.script.ensures);
+      background = c.background.ensures ∙ ap (λ (s : ScriptModel). s.background) c.plan.ensures;
     }

@@ -2,10 +2,7 @@
 use Rattle.std.proofs.Common.{◌≡◌, ◌∷◌, ℕ, List, Option, refl, sym, ◌∙◌, subst}
 use Rattle.model_history.specs.declared.event.Event.TheVariants as event
 use Rattle.model_history.specs.declared.history.Entry.{Entry}
-use Rattle.model_history.specs.Scripts.{ScriptModel}
-use Rattle.model_history.specs.Accepted.{IsPlayable}
 use Rattle.model_history.specs.Frames.{pulls_of}
-use Rattle.model_history.specs.Legal.{Legal}
 use Rattle.model_steps.specs.Events.{commit}
 use Rattle.impl_host.specs.Hosts.{Hosts}
 use Rattle.impl_log.specs.Runs.{past}
@@ -22,10 +19,8 @@ commit_to_host-requires c =
     let h = past r in
     let side = c.args.self.now.main in
     let there = commit_there r.script r.workers h c.args.actor c.args.frame side c.requires.legal c.requires.state.main in
-    let same : c.deref.result.now ≡ r.script = c.deref.ensures ∙ c.script-script.ensures in
-    subst (λ (o : Option MainEnd). HostCommits c.deref.result.now c.args.self.now.host c.args.frame o) (sym c.take-end.ensures.value)
-    (subst (λ (z : ScriptModel). HostCommits z c.args.self.now.host c.args.frame side.end) (sym same)
-    (record { workers = r.workers; past = h; actor = c.args.actor; playable = c.requires.playable; legal = c.requires.legal; hosts = c.requires.state.host; commit = there }))
+    subst (λ (o : Option MainEnd). HostCommits c.args.self.now.host c.args.frame o) (sym c.take-end.ensures.value)
+    (record { script = r.script; workers = r.workers; past = h; actor = c.args.actor; playable = c.requires.playable; legal = c.requires.legal; hosts = c.requires.state.host; commit = there })
 
 pub returns : goal.returns
 returns c =
@@ -37,10 +32,8 @@ returns c =
     let k = c.args.frame in
     let side = c.args.self.now.main in
     let there = commit_there s n h a k side c.requires.legal c.requires.state.main in
-    let same : c.deref.result.now ≡ r.script = c.deref.ensures ∙ c.script-script.ensures in
     let pushed : Hosts s (commit a k ∷ h) c.commit_to_host.new.host =
-    subst (λ (z : ScriptModel). (workers : ℕ) (past : List Entry) (actor : ℕ) → IsPlayable z → Legal z workers (commit actor k ∷ past) → Hosts z past c.args.self.now.host → IsCommitted z (pulls_of past) k c.take-end.result → Hosts z (commit actor k ∷ past) c.commit_to_host.new.host)
-    same c.in_ok-commit_to_host.ensures n h a c.requires.playable c.requires.legal c.requires.state.host (subst (λ (o : Option MainEnd). IsCommitted s (pulls_of h) k o) (sym c.take-end.ensures.value) there) in
+    c.in_ok-commit_to_host.ensures s n h a c.requires.playable c.requires.legal c.requires.state.host (subst (λ (o : Option MainEnd). IsCommitted s (pulls_of h) k o) (sym c.take-end.ensures.value) there) in
     record {
       log = refl;
       keeps = record {

@@ -19,7 +19,7 @@ done-requires c =
       within = done_within r.script r.workers h c.args.actor c.args.worker c.args.key c.requires.legal;
       holds = k.tiles;
       legal = c.requires.legal;
-      is_tile = c.tile-tile.ensures r.script h k.host (c.deref.ensures ∙ c.script.ensures) (c.pinned-pinned.ensures r.script r.workers h k.tiles);
+      is_tile = c.tile-tile.ensures r.script h k.host c.plan.ensures (c.pinned-pinned.ensures r.script r.workers h k.tiles);
     }
 
 pub returns : goal.returns
@@ -38,7 +38,7 @@ returns c =
       log = refl;
       keeps = record {
         host = k.host;
-        tiles = holds s n h a (done_within s n h a w q c.requires.legal) k.tiles c.requires.legal (c.tile-tile.ensures s h k.host (c.deref.ensures ∙ c.script.ensures) (c.pinned-pinned.ensures s n h k.tiles));
+        tiles = holds s n h a (done_within s n h a w q c.requires.legal) k.tiles c.requires.legal (c.tile-tile.ensures s h k.host c.plan.ensures (c.pinned-pinned.ensures s n h k.tiles));
         main = main_stays s n h a c.args.self.now.main (event.DoneTile w q) c.requires.legal refl k.main;
       };
     })
