@@ -1,5 +1,5 @@
 -- What is known of the needed keys stays right.
-use Rattle.std.proofs.Common.{◌≡◌, ◌==◌, Bool, true, false, cond, ◌&&◌, List, [], ◌∷◌, length, filter, Some, refl, sym, ◌∙◌, ap, subst, arith}
+use Rattle.std.proofs.Common.{◌≡◌, ℕ, ◌==◌, Bool, true, false, cond, ◌&&◌, List, [], ◌∷◌, length, filter, Some, refl, sym, ◌∙◌, ap, subst, arith}
 use Rattle.std.specs.List.{list_all}
 use Rattle.geom.specs.declared.tile.TileKey.{TileKey}
 use Rattle.geom.specs.KeyLists.{same_key, has_key}
@@ -13,8 +13,8 @@ pub forgotten : (n : Needs) (needed ready : List TileKey) → n ≡ no_needs →
 forgotten n needed ready is = subst (λ z. KnowsNeeds z needed ready) (sym is) (record { keys = tt; all_ready = λ e. absurd cc })
 
 -- the keys were found, and it was asked whether all are ready
-pub found : (ks needed ready : List TileKey) (b : Bool) → ks ≡ needed → b ≡ list_all (has_key ready) ks → KnowsNeeds (record { keys = Some ks; all_ready = b }) needed ready
-found ks needed ready b is are = record { keys = is; all_ready = λ e. ap (list_all (has_key ready)) (sym is) ∙ (sym are ∙ e) }
+pub found : (ks needed ready : List TileKey) (b : Bool) (waits_at : ℕ) → ks ≡ needed → b ≡ list_all (has_key ready) ks → KnowsNeeds (record { keys = Some ks; all_ready = b; waits_at = waits_at }) needed ready
+found ks needed ready b waits_at is are = record { keys = is; all_ready = λ e. ap (list_all (has_key ready)) (sym is) ∙ (sym are ∙ e) }
 
 -- the same keys are needed, and the same are ready
 pub same_needs : (n : Needs) (needed needed_now ready ready_now : List TileKey) → needed_now ≡ needed → ready_now ≡ ready → KnowsNeeds n needed ready → KnowsNeeds n needed_now ready_now

@@ -35,9 +35,11 @@ impl Core {
         ensures same { self.new ≡ self.old }
     {
         let required = self.required_keys()?;
-        let ready = self.tiles.are_ready(&required);
+        let mut waits_at = 0;
+        let ready = self.tiles.are_ready(&required, &mut waits_at);
         self.required.keys = Some(required);
         self.required.all_ready = ready;
+        self.required.waits_at = waits_at;
         Ok(ready)
     }
 
@@ -49,8 +51,10 @@ impl Core {
     {
         match &self.required.keys {
             Some(required) => {
-                let ready = self.tiles.are_ready(required);
+                let mut waits_at = self.required.waits_at;
+                let ready = self.tiles.are_ready(required, &mut waits_at);
                 self.required.all_ready = ready;
+                self.required.waits_at = waits_at;
                 Ok(ready)
             }
             None => self.find_required(),

@@ -11,6 +11,9 @@ pub(crate) struct Needs {
     pub(crate) keys: Option<Keys>,
     /// Whether all of them are known to be ready.
     pub(crate) all_ready: bool,
+    /// The place of a key that was not ready when they were asked for last. Nothing rests on it: it tells with which
+    /// key the next question begins.
+    pub(crate) waits_at: usize,
 }
 
 // Written out, since a derived drop is proved anew, field by field, in each function that lets one go.
@@ -19,6 +22,7 @@ impl Drop for Needs {
         let Needs {
             keys: _,
             all_ready: _,
+            waits_at: _,
         } = self;
     }
 }
@@ -31,6 +35,7 @@ impl Needs {
         Needs {
             keys: None,
             all_ready: false,
+            waits_at: 0,
         }
     }
 
@@ -40,6 +45,7 @@ impl Needs {
     {
         self.keys = None;
         self.all_ready = false;
+        self.waits_at = 0;
     }
 
     /// These keys are evicted: if there are any, it is no longer known whether all are ready.

@@ -1,6 +1,6 @@
 //! The tile manager.
 
-ghost use Rattle.std.specs.Prelude.{◌≡◌, ℕ, ◌≤◌, ◌↔◌, not, true, false, List, [], ◌∷◌, Some, take, filter, option_map, IsTrue, IfOk, OnOk, OnErr};
+ghost use Rattle.std.specs.Prelude.{◌≡◌, ℕ, ◌<◌, ◌≤◌, ◌↔◌, not, true, false, List, [], ◌∷◌, Some, length, take, filter, option_map, IsTrue, IfOk, OnOk, OnErr};
 ghost use Rattle.std.specs.List.{list_all};
 ghost use Rattle.geom.specs.declared.tile.TileKey.{TileKey as Key};
 ghost use Rattle.geom.specs.KeyLists.{has_key, AreDistinctKeys};
@@ -71,17 +71,34 @@ impl Drop for TileManager {
     }
 }
 
-// Whether each of these keys has an image, which is asked of one after another.
-fn each_ready(store: &TileStore, keys: &Keys) -> bool
-    ensures { result ≡ list_all (is_ready store.now) keys.now }
+// The first place from `from` on of a key without an image; the end if there is none.
+fn unready_from(store: &TileStore, keys: &[TileKey], from: usize) -> usize
+    ensures some { result < length keys.now → list_all (is_ready store.now) keys.now ≡ false }
+    ensures none { from ≡ 0 → length keys.now ≤ result → list_all (is_ready store.now) keys.now ≡ true }
 {
     let mut near = 0;
-    for key in keys.as_slice() {
-        if store.ready_near(&mut near, *key).is_none() {
+    for at in from..keys.len() {
+        if store.ready_near(&mut near, keys[at]).is_none() {
+            return at;
+        }
+    }
+    keys.len()
+}
+
+// Whether each of these keys has an image. Those from `waits_at` on are asked for first, and it is set to the place of
+// one without an image.
+fn each_ready(store: &TileStore, keys: &Keys, waits_at: &mut usize) -> bool
+    ensures { result ≡ list_all (is_ready store.now) keys.now }
+{
+    let keys = keys.as_slice();
+    if *waits_at > 0 {
+        *waits_at = unready_from(store, keys, *waits_at);
+        if *waits_at < keys.len() {
             return false;
         }
     }
-    true
+    *waits_at = unready_from(store, keys, 0);
+    *waits_at >= keys.len()
 }
 
 // Whether a search finds this key among these and it has no image. It always finds it if they stand in key
@@ -98,7 +115,7 @@ fn is_found_unready(store: &TileStore, keys: &Keys, key: TileKey) -> bool
 
 // Whether all of these keys have an image. The key that starts next has none: if it is one of them, the others
 // are not asked for.
-fn all_ready(store: &TileStore, keys: &Keys, next: Option<TileKey>) -> bool
+fn all_ready(store: &TileStore, keys: &Keys, waits_at: &mut usize, next: Option<TileKey>) -> bool
     ensures { result ≡ list_all (is_ready store.now) keys.now }
 {
     if let Some(key) = next
@@ -106,7 +123,7 @@ fn all_ready(store: &TileStore, keys: &Keys, next: Option<TileKey>) -> bool
     {
         return false;
     }
-    each_ready(store, keys)
+    each_ready(store, keys, waits_at)
 }
 
 impl TileManager {
@@ -194,11 +211,13 @@ impl TileManager {
         self.pins.has_near(near, key)
     }
 
-    /// Whether all of these keys have an image.
-    pub fn are_ready(&self, keys: &Keys) -> bool
+    /// Whether all of these keys have an image. `waits_at` carries the place of one that has none from one question to
+    /// the next, so that the keys are not asked for again while it is waited for. The answer doesn't depend on it; 0 is
+    /// as good a beginning as any.
+    pub fn are_ready(&self, keys: &Keys, waits_at: &mut usize) -> bool
         ensures { (s : ScriptModel) (h : List Entry) → Manages s h self.now → result ≡ are_ready s h keys.now }
     {
-        all_ready(&self.store, keys, self.outlook.at_hand())
+        all_ready(&self.store, keys, waits_at, self.outlook.at_hand())
     }
 
     /// Those of the keys that have no image and whose image is not being made, in their order. An error means out of

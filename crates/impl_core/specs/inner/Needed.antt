@@ -12,8 +12,8 @@ pub record KnowsNeeds (n : Needs) (needed ready : List TileKey) : Type 0 where
 
 -- nothing is known
 abbrev pub no_needs : Needs
-no_needs = record { keys = None; all_ready = false }
+no_needs = record { keys = None; all_ready = false; waits_at = 0 }
 
 -- after these keys were evicted the keys are still known; that all are ready, only if none was evicted
 abbrev pub after_evicting : Needs → List TileKey → Needs
-after_evicting n evicted = record { keys = n.keys; all_ready = n.all_ready && (length evicted == 0) }
+after_evicting n evicted = record { keys = n.keys; all_ready = n.all_ready && (length evicted == 0); waits_at = n.waits_at }
