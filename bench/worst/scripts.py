@@ -230,8 +230,8 @@ def one_frame_items(commands, still):
 
 
 def wheel_collisions(wheels, layers):
-    """Wheels over layers whose clips and transforms have ids with one place in a table of 256, in two chains each that
-    alternate. The first clips are empty, so that the search goes through all layers."""
+    """Wheels over layers whose clips and transforms have ids that a table of 256 by id would give one place, in two chains
+    each that alternate. The first clips are empty, so that the search goes through all layers."""
     ids = [256 * block + (7 - block) % 256 for block in range(256)]
     chains = ids[:128], ids[128:]
     frame = [{"op": "add_transform", "id": node, "parent": above, "x": 0, "y": 0, "scroller": 0}
@@ -254,7 +254,7 @@ def unknown_scrollers(inputs):
 
 def wide_rects(commands):
     """One main frame whose rects each touch nearly all of a million places, and none of which holds another of the last
-    512: each place is given its stamp once a rect."""
+    512: what writes the places of each rect writes each place once a rect."""
     at = lambda turn: [-(turn % 1024), turn % 1024 - 1023, 16384, 16384]
     first = [layer(1, 16384, 16384), item(1, 0, at(0), "ff0000ff")]
     change = [item(1, 0, at(turn), "ff0000ff", "replace_item") for turn in range(1, commands + 1)]

@@ -8,7 +8,7 @@
 //! While all places have one stamp, as in a layer that was added or resized, that one stands for all, and the
 //! room for the others is reserved and not written. The first change of a part writes the stamps of all places:
 //! 4 MiB for a layer of 16384 by 16384 pixels at tiles of 16. To carry a later one costs the places that it
-//! touches, not the places of the layer.
+//! touches, not the places of the layer; if its rects share many, each is written once.
 #![tactic(auto)]
 
 mod laws;
