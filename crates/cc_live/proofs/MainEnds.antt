@@ -1,5 +1,5 @@
 -- A main frame that is edited, told and answered.
-use Rattle.std.proofs.Common.{◌≡◌, ℕ, zero, suc, ◌<◌, ◌≤◌, Bool, true, false, not, cond, ◌&&◌, List, [], ◌∷◌, ◌++◌, length, slice_get, slice_index_or, Option, Some, None, option_map, Result, Ok, Err, refl, sym, ◌∙◌, ap, subst, arith}
+use Rattle.std.proofs.Common.{◌≡◌, ℕ, zero, suc, ◌<◌, ◌≤◌, Bool, true, false, not, cond, ◌&&◌, List, [], ◌∷◌, ◌++◌, length, slice_get, slice_index_or, Option, Some, None, Result, Ok, Err, refl, sym, ◌∙◌, ap, subst, arith}
 use Rattle.std.specs.Prelude.{OnOk, OnErr, ⊤}
 use Rattle.std.specs.List.{list_all, list_any}
 use Rattle.std.specs.declared.alloc.AllocError.{AllocError}
@@ -19,7 +19,8 @@ use Rattle.model_history.specs.declared.history.Entry.{Entry}
 use Rattle.model_history.specs.declared.input.Input.{Input}
 use Rattle.model_history.specs.Scripts.{ScriptModel}
 use Rattle.model_history.specs.Accepted.{IsPlayable, TakesAll}
-use Rattle.model_history.specs.Due.{due, on_if, due_ready, due_abort}
+use Rattle.model_history.specs.Due.{due, on_if}
+use Rattle.model_history.specs.DueParts.{due_ready, due_abort}
 use Rattle.model_history.specs.Ended.{AreBounded, Tells}
 use Rattle.model_history.specs.EventFields.{sends, answers}
 use Rattle.model_history.specs.Frames.{commands_of, page, changes, pulls_of}
@@ -28,7 +29,7 @@ use Rattle.model_history.specs.Legal.{sched, can, Legal}
 use Rattle.model_history.specs.Ranges.{command_in_range}
 use Rattle.model_history.specs.SameChanges.{SameChanges}
 use Rattle.model_history.specs.Scrolls.{scrolls_to}
-use Rattle.model_history.specs.Scans.{counted, held, has_ended, newest}
+use Rattle.model_history.specs.Scans.{counted, held, has_ended}
 use Rattle.model_history.specs.Stamps.{changed_by, unchanged, stamp_in}
 use Rattle.model_history.specs.Tiles.{page_keys}
 use Rattle.model_history.proofs.Course.{course}
@@ -45,6 +46,7 @@ use Rattle.impl_log.specs.Runs.{Run, past, now, with_entry, Entered}
 use Rattle.impl_core.specs.Handovers.{IsPreparedFor}
 use Rattle.impl_core.specs.Replies.{told_frame}
 use Rattle.impl_core.specs.declared.handed.Handed.{Handed}
+use Rattle.impl_core.proofs.ToldFrames.{IsToldFrame, told_frame_is}
 use Rattle.cc_live.specs.declared.open_frame.OpenFrame.{OpenFrame}
 use Rattle.cc_live.specs.declared.main_fault.MainFault.{MainFault}
 use Rattle.cc_live.specs.declared.main_fault.MainFault.TheVariants as fault
@@ -115,7 +117,6 @@ edit_kept p old new c (Err (fault.Refused why)) fits e i = same_frame p (record 
 edit_kept p old new c (Err fault.Worn) fits e i = same_frame p (record { page = old.page; commands = old.commands.items }) (record { page = new.page; commands = new.commands.items }) e.1 e.2 i
 edit_kept p old new c (Err (fault.Memory refused)) fits e i = same_frame p (record { page = old.page; commands = old.commands.items }) (record { page = new.page; commands = new.commands.items }) e.0 e.1 i
 edit_kept p old new c (Err fault.NotNow) fits e i = absurd e
-edit_kept p old new c (Err fault.OutOfRange) fits e i = absurd e
 
 frame_is : (l : LiveModel) (old new : OpenFrame) → l.open_frame ≡ open_of (Some old) → new.page ≡ old.page → new.commands.items ≡ old.commands.items → record l { open_frame = open_of (Some new) } ≡ l
 frame_is l old new was pages commands =
@@ -127,31 +128,8 @@ edits_of l old new c (Err (fault.Refused why)) was e = (record { page = old.page
 edits_of l old new c (Err fault.Worn) was e = (record { page = old.page; commands = old.commands.items }, was, e.0, frame_is l old new was e.1 e.2)
 edits_of l old new c (Err (fault.Memory refused)) was e = frame_is l old new was e.0 e.1
 edits_of l old new c (Err fault.NotNow) was e = absurd e
-edits_of l old new c (Err fault.OutOfRange) was e = absurd e
 
 -- ---- the main frame in flight
-
-pub record IsInFlight (r : Run) (k : ℕ) (ms : List Move) : Type 0 where
-  pub sent : is_sent (sched (past r)).main_state ≡ true
-  pub last : newest sends (past r) ≡ Some k
-  pub pulls : ms ≡ pulls_of (past r) k
-
-pub flying : (r : Run) (k : ℕ) (ms : List Move) → told_frame r ≡ Some (k, ms) → IsInFlight r k ms
-flying r k ms e = by_cases (is_sent (sched (past r)).main_state) (newest sends (past r)) refl refl (sym e)
-  where
-    number_of : (p q : ℕ × List Move) → Some p ≡ Some q → p.0 ≡ q.0
-    number_of p q i = let j : p ≡ q = cc in ap (λ (z : ℕ × List Move). z.0) j
-
-    moves_of : (p q : ℕ × List Move) → Some p ≡ Some q → p.1 ≡ q.1
-    moves_of p q i = let j : p ≡ q = cc in ap (λ (z : ℕ × List Move). z.1) j
-
-    by_cases : (b : Bool) (o : Option ℕ) → is_sent (sched (past r)).main_state ≡ b → newest sends (past r) ≡ o
-        → ◌≡◌ {A = Option (ℕ × List Move)} (Some (k, ms)) (cond b (option_map (λ j. (j, pulls_of (past r) j)) o) None) → IsInFlight r k ms
-    by_cases true (Some j) t l e =
-        let i : k ≡ j = number_of (k, ms) (j, pulls_of (past r) j) e in
-        record { sent = t; last = l ∙ ap Some (sym i); pulls = moves_of (k, ms) (j, pulls_of (past r) j) e ∙ ap (pulls_of (past r)) (sym i) }
-    by_cases true None t l e = absurd cc
-    by_cases false o t l e = absurd cc
 
 pub told_same : (r : Run) (k j : ℕ) (ms ns : List Move) → told_frame r ≡ Some (k, ms) → Some (j, ns) ≡ told_frame r → ns ≡ ms
 told_same r k j ms ns e f = moves_of (j, ns) (k, ms) (f ∙ e)
@@ -160,9 +138,9 @@ told_same r k j ms ns e f = moves_of (j, ns) (k, ms) (f ∙ e)
     moves_of p q i = let h : p ≡ q = cc in ap (λ (z : ℕ × List Move). z.1) h
 
 pub flying_bounded : (r : Run) (k : ℕ) (ms : List Move) → Legal r.script r.workers (past r) → IsPlayable r.script → told_frame r ≡ Some (k, ms) → AreBounded ms
-flying_bounded r k ms legal plays e = let f : IsInFlight r k ms = flying r k ms e in subst AreBounded (sym f.pulls) (pulls_bounded r.script r.workers (past r) k plays legal)
+flying_bounded r k ms legal plays e = let f : IsToldFrame r k ms = told_frame_is r k ms (sym e) in subst AreBounded (sym f.pulls) (pulls_bounded r.script r.workers (past r) k plays legal)
 
-module _ (r : Run) (legal : Legal r.script r.workers (past r)) (k : ℕ) (ms : List Move) (f : IsInFlight r k ms) where
+module _ (r : Run) (legal : Legal r.script r.workers (past r)) (k : ℕ) (ms : List Move) (f : IsToldFrame r k ms) where
   pub answered_is : counted answers (past r) ≡ k
   answered_is = answered_next (past r) k (course r.script r.workers (past r) legal) (answered_course r.script r.workers (past r) legal) f.sent f.last
 
@@ -252,7 +230,7 @@ module _ (r : Run) (legal : Legal r.script r.workers (past r)) (sent : is_sent (
   pub side_told : (p : Page) (o : Option OpenModel) → IsMainSide r p o → IsMainSide (told_run r cs) p None
   side_told p o side = record { main = side.main ∙ sym (page_told (pulls_of (past r)) (counted answers (past r)) (omega arith)); open_frame = tt }
 
-module _ (r : Run) (legal : Legal r.script r.workers (past r)) (k : ℕ) (ms : List Move) (f : IsInFlight r k ms) (p : Page) (frame : OpenModel) (side : IsMainSide r p (Some frame)) (waits : Option Input) (told : IsTold r waits) where
+module _ (r : Run) (legal : Legal r.script r.workers (past r)) (k : ℕ) (ms : List Move) (f : IsToldFrame r k ms) (p : Page) (frame : OpenModel) (side : IsMainSide r p (Some frame)) (waits : Option Input) (told : IsTold r waits) where
   last : suc k ≡ length r.script.main
   last = frame_last r legal k ms f waits told
 
@@ -291,10 +269,10 @@ module _ (r : Run) (legal : Legal r.script r.workers (past r)) (k : ℕ) (ms : L
 pub tells_changes : (r : Run) (k : ℕ) (ms : List Move) (p : Page) (o : Option OpenModel) (q : Page) (answer : Bool) → Legal r.script r.workers (past r) → told_frame r ≡ Some (k, ms) → IsMainSide r p o → q ≡ page r.script (pulls_of (past r)) (suc k) → Tells r.script k ms p q answer
     → answer ≡ changes r.script (pulls_of (past r)) k
 tells_changes r k ms p o q answer legal e side is tells =
-    let f : IsInFlight r k ms = flying r k ms e in
+    let f : IsToldFrame r k ms = told_frame_is r k ms (sym e) in
     tells (pulls_of (past r)) (sym f.pulls) (side.main ∙ ap (page r.script (pulls_of (past r))) (answered_is r legal k ms f)) is
 
-module _ (r : Run) (legal : Legal r.script r.workers (past r)) (going : has_ended (past r) ≡ false) (k : ℕ) (ms : List Move) (f : IsInFlight r k ms) where
+module _ (r : Run) (legal : Legal r.script r.workers (past r)) (going : has_ended (past r) ≡ false) (k : ℕ) (ms : List Move) (f : IsToldFrame r k ms) where
   ready_due : can r.script (past r) kind.Ready 1 ≡ on_if (changes r.script (pulls_of (past r)) k) (event.Ready k)
   ready_due = (λ i. cond (not (going i) && f.sent i) (due r.script (past r) kind.Ready 1) None) ∙ ap (due_ready r.script (past r)) f.last
 
@@ -331,21 +309,21 @@ pub both_ready : (r new : Run) (waits : Option Input) (jobs : List (Option Job))
     → IsLive r waits jobs × IsMainSide r p o → IsLive new waits jobs × IsMainSide new q o
 both_ready r new waits jobs p o k ms q legal e closed is entered inv = (
   stays_entered r new 1 (event.Ready k) waits jobs refl entered inv.0,
-  subst (IsMainSide new q) (sym closed) (side_ready r legal inv.0.told.going k ms (flying r k ms e) new q entered is),
+  subst (IsMainSide new q) (sym closed) (side_ready r legal inv.0.told.going k ms (told_frame_is r k ms (sym e)) new q entered is),
 )
 
 pub both_abort : (r new : Run) (waits : Option Input) (jobs : List (Option Job)) (p : Page) (o : Option OpenModel) (k : ℕ) (ms : List Move) (q : Page) → Legal r.script r.workers (past r) → told_frame r ≡ Some (k, ms) → o ≡ None → q ≡ page r.script (pulls_of (past r)) (suc k) → new ≡ with_entry r 1 (event.Abort k)
     → IsLive r waits jobs × IsMainSide r p o → IsLive new waits jobs × IsMainSide new q o
 both_abort r new waits jobs p o k ms q legal e closed is entered inv = (
   stays_entered r new 1 (event.Abort k) waits jobs refl entered inv.0,
-  subst (IsMainSide new q) (sym closed) (side_abort r legal inv.0.told.going k ms (flying r k ms e) new q entered is),
+  subst (IsMainSide new q) (sym closed) (side_abort r legal inv.0.told.going k ms (told_frame_is r k ms (sym e)) new q entered is),
 )
 
 -- once its commands are told
 pub both_told : (r new : Run) (waits : Option Input) (jobs : List (Option Job)) (p : Page) (frame : OpenModel) (k : ℕ) (ms : List Move) → Legal r.script r.workers (past r) → IsPlayable r.script → told_frame r ≡ Some (k, ms) → new ≡ told_run r frame.commands
     → IsLive r waits jobs × IsMainSide r p (Some frame) → IsLive new waits jobs × IsMainSide new p None
 both_told r new waits jobs p frame k ms legal a e is inv =
-    let f : IsInFlight r k ms = flying r k ms e in (
+    let f : IsToldFrame r k ms = told_frame_is r k ms (sym e) in (
       subst (λ (z : Run). IsLive z waits jobs) (sym is) (live_told r legal f.sent frame.commands waits jobs (told_playable r legal k ms f p frame inv.1 waits inv.0.told a) inv.0),
       subst (λ (z : Run). IsMainSide z p None) (sym is) (side_told r legal f.sent frame.commands p (Some frame) inv.1),
     )

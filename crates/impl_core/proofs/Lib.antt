@@ -14,4 +14,5 @@ pub mod Prepared
 pub mod QuietAborts
 pub mod SeenSteps
 pub mod StandingHosts
+pub mod ToldFrames
 pub mod WantedKeys

@@ -20,10 +20,11 @@ use Rattle.main_host.specs.Hosts.{MainHostModel, IsEnd, with_frame}
 use Rattle.main_host.specs.declared.main_end.MainEnd.{MainEnd}
 use Rattle.main_host.specs.declared.main_end.MainEnd.TheVariants as end
 use Rattle.impl_core.specs.Replies.{told_frame}
+use Rattle.impl_core.proofs.ToldFrames.{IsToldFrame, told_frame_is}
 use Rattle.proxy_single_thread.specs.declared.main_side.MainSide.{MainSide}
 use Rattle.proxy_single_thread.specs.inner.Ends.{is_ready}
 use Rattle.proxy_single_thread.specs.inner.Sides.{IsAtRest, IsBefore, IsBehind, IsInFlight, IsMainOf, IsMain}
-use Rattle.proxy_single_thread.proofs.MainPulls.{IsTold, told_is, some_last, ready_comes, abort_comes, no_ready, no_abort}
+use Rattle.proxy_single_thread.proofs.MainPulls.{some_last, ready_comes, abort_comes, no_ready, no_abort}
 use Rattle.proxy_single_thread.proofs.MainSteps.{has_run, rests, main_after}
 
 -- the end of a frame in flight that was run
@@ -60,8 +61,8 @@ held_is r side e m is = by_test (is_sent (sched (past r)).main_state) sent absen
 -- ---- the frame in flight is run
 
 module _ (r : Run) (side : MainSide) (legal : Legal r.script r.workers (past r)) (m : IsMain r side) (none : side.end ≡ None) (k : ℕ) (ms : List Move) (told : Some (k, ms) ≡ told_frame r) where
-  t : IsTold r k ms
-  t = told_is r k ms told
+  t : IsToldFrame r k ms
+  t = told_frame_is r k ms told
 
   before : IsBefore r.script (pulls_of (past r)) (counted sends (past r)) side
   before = in_flight r side m t.sent None none

@@ -13,12 +13,10 @@ use Rattle.model_history.specs.Due.{due, on_if}
 use Rattle.model_history.specs.DueParts.{due_ready, due_abort}
 use Rattle.model_history.specs.Legal.{sched, can, Legal}
 use Rattle.model_history.proofs.Course.{Course, course, sent_not_idle}
-use Rattle.impl_log.specs.Runs.{Run, past}
 use Rattle.main_host.specs.Hosts.{HasRun, MainHostModel, IsEnd}
 use Rattle.main_host.specs.declared.main_end.MainEnd.{MainEnd}
 use Rattle.main_host.specs.declared.main_end.MainEnd.TheVariants as end
 use Rattle.main_host.proofs.FramesRun.{tells}
-use Rattle.impl_core.specs.Replies.{told_frame}
 use Rattle.proxy_single_thread.specs.inner.Ends.{is_ready}
 use Rattle.proxy_single_thread.specs.inner.Sides.{IsEndOf}
 
@@ -36,30 +34,6 @@ module _ (s : ScriptModel) (ps : ℕ → List Move) (k : ℕ) (host : MainHostMo
 pub ready_tells : (s : ScriptModel) (ps : ℕ → List Move) (k : ℕ) (lists : List (List Move)) (e : MainEnd) → IsEndOf s ps k lists e → is_ready e ≡ changes s ps k
 ready_tells s ps k lists (end.Ready c) i = sym i.0
 ready_tells s ps k lists (end.Abort frame) i = sym i.0
-
--- what a core tells of the frame in flight
-
-pub record IsTold (r : Run) (k : ℕ) (ms : List Move) : Type 0 where
-  pub sent : is_sent (sched (past r)).main_state ≡ true
-  pub last : newest sends (past r) ≡ Some k
-  pub pulls : ms ≡ pulls_of (past r) k
-
-pub told_is : (r : Run) (k : ℕ) (ms : List Move) → Some (k, ms) ≡ told_frame r → IsTold r k ms
-told_is r k ms e = by_cases (is_sent (sched (past r)).main_state) (newest sends (past r)) refl refl e
-  where
-    number_of : (p q : ℕ × List Move) → Some p ≡ Some q → p.0 ≡ q.0
-    number_of p q i = let j : p ≡ q = cc in ap (λ (z : ℕ × List Move). z.0) j
-
-    moves_of : (p q : ℕ × List Move) → Some p ≡ Some q → p.1 ≡ q.1
-    moves_of p q i = let j : p ≡ q = cc in ap (λ (z : ℕ × List Move). z.1) j
-
-    by_cases : (b : Bool) (o : Option ℕ) → is_sent (sched (past r)).main_state ≡ b → newest sends (past r) ≡ o
-        → ◌≡◌ {A = Option (ℕ × List Move)} (Some (k, ms)) (cond b (option_map (λ j. (j, pulls_of (past r) j)) o) None) → IsTold r k ms
-    by_cases true (Some j) t l e =
-        let i : k ≡ j = number_of (k, ms) (j, pulls_of (past r) j) e in
-        record { sent = t; last = l ∙ ap Some (sym i); pulls = moves_of (k, ms) (j, pulls_of (past r) j) e ∙ ap (pulls_of (past r)) (sym i) }
-    by_cases true None t l e = absurd cc
-    by_cases false o t l e = absurd cc
 
 -- ---- what may come of the main side
 

@@ -11,7 +11,8 @@ use Rattle.cc_live.specs.declared.open_frame.OpenFrame.{OpenFrame}
 use Rattle.cc_live.specs.Lives.{LiveModel, OpenModel, open_of}
 use Rattle.cc_live.specs.MainSide.{MadeOf}
 use Rattle.cc_live.specs.inner.Kept.{IsMainSide}
-use Rattle.cc_live.proofs.MainEnds.{flying, flying_bounded, takes_told}
+use Rattle.impl_core.proofs.ToldFrames.{told_frame_is}
+use Rattle.cc_live.proofs.MainEnds.{flying_bounded, takes_told}
 use Rattle.cc_live.proofs.live.Live.made.Goals as goal
 
 pub made_of-requires-clause-bounded : goal.made_of-requires-clause-bounded
@@ -26,7 +27,7 @@ made_of-requires-clause-takes c =
     subst (λ (cs : List Command). TakesAll (page_after_pulls c.as_slice.result.now c.deref.result.now) cs) (sym c.as_slice-in-Some-open_frame.ensures.value)
     (subst (λ (ms : List Move). TakesAll (page_after_pulls ms c.deref.result.now) frame.commands) (sym c.as_slice.ensures)
     (subst (λ (q : Page). TakesAll (page_after_pulls c.in-Some.pulls.now q) frame.commands) (sym c.deref.ensures)
-    (takes_told r c.is_legal.ensures.legal c.in-Some.frame c.in-Some.pulls.now (flying r c.in-Some.frame c.in-Some.pulls.now (sym c.in-Some.ensures)) c.self.inside.main.value frame side c.self.inside.waits c.self.invariant.0.told)))
+    (takes_told r c.is_legal.ensures.legal c.in-Some.frame c.in-Some.pulls.now (told_frame_is r c.in-Some.frame c.in-Some.pulls.now c.in-Some.ensures) c.self.inside.main.value frame side c.self.inside.waits c.self.invariant.0.told)))
 
 pub returns-in-Ok : goal.returns-in-Ok
 returns-in-Ok c =

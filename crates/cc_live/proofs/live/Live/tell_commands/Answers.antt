@@ -9,7 +9,8 @@ use Rattle.cc_live.specs.declared.open_frame.OpenFrame.{OpenFrame}
 use Rattle.cc_live.specs.Lives.{LiveModel, OpenModel, open_of}
 use Rattle.cc_live.specs.MainSide.{MadeOf}
 use Rattle.cc_live.specs.inner.Kept.{IsLive, IsMainSide}
-use Rattle.cc_live.proofs.MainEnds.{flying, told_playable, told_prepared, own_commands, both_told, made_told, some_same}
+use Rattle.impl_core.proofs.ToldFrames.{told_frame_is}
+use Rattle.cc_live.proofs.MainEnds.{told_playable, told_prepared, own_commands, both_told, made_told, some_same}
 use Rattle.cc_live.proofs.live.Live.tell_commands.Goals as goal
 
 pub end_frame-requires-clause-playable : goal.end_frame-requires-clause-playable
@@ -19,7 +20,7 @@ end_frame-requires-clause-playable c =
     let e : told_frame r ≡ Some (c.args.frame, c.requires.pulls) = ap told_frame same ∙ c.requires.in_flight in
     let frame : OpenModel = record { page = c.in-Some.edited.page; commands = c.in-Some.edited.commands.items } in
     let side : IsMainSide r c.self.inside.main.value (Some frame) = subst (λ (o : Option OpenFrame). IsMainSide r c.self.inside.main.value (open_of o)) (sym c.in-Some.ensures.value) c.self.invariant.1 in
-    told_playable r c.is_legal.ensures.legal c.args.frame c.requires.pulls (flying r c.args.frame c.requires.pulls e) c.self.inside.main.value frame side c.self.inside.waits c.self.invariant.0.told c.is_legal.ensures.playable
+    told_playable r c.is_legal.ensures.legal c.args.frame c.requires.pulls (told_frame_is r c.args.frame c.requires.pulls (sym e)) c.self.inside.main.value frame side c.self.inside.waits c.self.invariant.0.told c.is_legal.ensures.playable
 
 pub end_frame-requires-clause-looked : goal.end_frame-requires-clause-looked
 end_frame-requires-clause-looked c = c.self.invariant.0.told.looked
@@ -28,7 +29,7 @@ pub end_frame-requires-clause-sent : goal.end_frame-requires-clause-sent
 end_frame-requires-clause-sent c =
     let r : Run = c.self.inside.core in
     let e : told_frame r ≡ Some (c.args.frame, c.requires.pulls) = ap (λ (l : LiveModel). told_frame l.run) c.self.view_is ∙ c.requires.in_flight in
-    (flying r c.args.frame c.requires.pulls e).sent
+    (told_frame_is r c.args.frame c.requires.pulls (sym e)).sent
 
 pub invariant_of-self : goal.invariant_of-self
 invariant_of-self c =
@@ -53,7 +54,7 @@ returns-clause-made c =
     subst (λ (o : OpenModel). MadeOf c.self.inside.main.value c.requires.pulls o.commands c.args.handed.now) (sym own)
     (subst (λ (q : Page). MadeOf q c.requires.pulls c.requires.open_frame.commands c.args.handed.now) (sym (ap (λ (l : LiveModel). l.main) c.self.view_is)) (record { page = c.requires.page; changes = c.requires.changes; outright = c.requires.outright })) in
     made_told r (record { run = c.end_frame.new.self; waits = c.self.inside.waits; jobs = c.self.inside.jobs.items; main = c.self.inside.main.value; open_frame = open_of c.take.new.self }) frame c.args.frame c.requires.pulls c.args.handed.now e (ap open_of c.take.ensures.after)
-    (told_prepared r c.is_legal.ensures.legal c.args.frame c.requires.pulls (flying r c.args.frame c.requires.pulls e) c.self.inside.main.value frame side c.self.inside.waits c.self.invariant.0.told c.args.handed.now made)
+    (told_prepared r c.is_legal.ensures.legal c.args.frame c.requires.pulls (told_frame_is r c.args.frame c.requires.pulls (sym e)) c.self.inside.main.value frame side c.self.inside.waits c.self.invariant.0.told c.args.handed.now made)
     c.end_frame.ensures
 
 pub returns-clause-commands : goal.returns-clause-commands
@@ -64,4 +65,4 @@ returns-clause-commands c =
     let frame : OpenModel = record { page = c.in-Some.edited.page; commands = c.in-Some.edited.commands.items } in
     let side : IsMainSide r c.self.inside.main.value (Some frame) = subst (λ (o : Option OpenFrame). IsMainSide r c.self.inside.main.value (open_of o)) (sym c.in-Some.ensures.value) c.self.invariant.1 in
     ap (λ (z : Run). commands_of z.script c.args.frame) c.end_frame.ensures
-    ∙ own_commands r c.is_legal.ensures.legal c.args.frame c.requires.pulls (flying r c.args.frame c.requires.pulls e) c.self.inside.main.value frame side c.self.inside.waits c.self.invariant.0.told
+    ∙ own_commands r c.is_legal.ensures.legal c.args.frame c.requires.pulls (told_frame_is r c.args.frame c.requires.pulls (sym e)) c.self.inside.main.value frame side c.self.inside.waits c.self.invariant.0.told
